@@ -5,7 +5,7 @@ tries them over its own.
 
 `search` is the part of the seconds in which the prover tells what it found (the stages behind its
 check): where it is above a second, the broken goal was searched for, with help printed; answer it
-(see docs/GATE_COSTS.md).
+(see tools/costs/README.md).
 
 Status: 0; 1 where no check of the crate kept anything; 2 for a word that it doesn't take; 127 where
 rt isn't there. --help prints this."""

@@ -13,7 +13,7 @@ itself says goes to out/gate.log, and its last line is repeated here.
                    line tells how many times as much this one took: on virtual machines only what
                    runs at the same time can be compared
   --keep           writes the table to tools/costs.txt, where it passed: by it bin/build says how
-                   long it will take, and docs/GATE_COSTS.md speaks of it
+                   long it will take, and tools/costs/README.md speaks of it
 
 Status: the gate's own; 2 for a word that it doesn't take; 127 where rt isn't there. --help prints
 this."""

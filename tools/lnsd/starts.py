@@ -40,7 +40,8 @@ def words(trials):
             trials.compare(f"status and errors of {it}", (status, said), (0, ""))
             trials.holds(f"{it}: no text", len(out) > 40)
         for it in ("--version", "-V"):
-            trials.compare(it, program.run(it), (0, "lnsd 0.1.0\n", ""))
+            said = "lnsd 0.1.0, commit 000000000000, proof: none\n"
+            trials.compare(it, program.run(it), (0, said, ""))
 
 
 def full(trials):

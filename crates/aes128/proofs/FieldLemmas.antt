@@ -17,7 +17,8 @@ interchange a b c d =
 pub xor_byte : (a b : ℕ) → a < 256 → b < 256 → a ⊕ b < 256
 xor_byte a b = xor_lt 8 a b
 
--- A byte is the sum of its bits. What holds of the single bits and of sums so holds of every byte.
+-- A byte is the sum of its bits. So what holds of the single bits, and carries over to sums, holds
+-- of every byte.
 abbrev pub weights : List ℕ
 weights = 1 ∷ 2 ∷ 4 ∷ 8 ∷ 16 ∷ 32 ∷ 64 ∷ 128 ∷ []
 
@@ -34,7 +35,7 @@ unfoldable pub at_weights : (ℕ → Bool) → List ℕ → Bool
 at_weights test [] = test 0
 at_weights test (w ∷ ws) = (ltb w 256 && test w) && at_weights test ws
 
--- a summand that is there or not
+-- a summand that is present or absent
 chosen-lt : (p : Bool) (b : ℕ) → b < 256 → cond p b 0 < 256
 chosen-lt true b byte = byte
 chosen-lt false b byte = lit< tt

@@ -65,7 +65,7 @@ mix-inv_mix s block =
     (mixed-unmixed _ _ _ _ (column_bytes s block 0)) (mixed-unmixed _ _ _ _ (column_bytes s block 1))
     (mixed-unmixed _ _ _ _ (column_bytes s block 2)) (mixed-unmixed _ _ _ _ (column_bytes s block 3))
 
--- to add a key of 16 bytes twice changes no block
+-- adding a key of 16 bytes twice leaves a block as it was
 key-twice : (s k : List ℕ) → IsBlock s → IsBlock k → xor (xor s k) k ≡ s
 key-twice s k is_s is_k = xor-twice s k (omega (arith, is_s.0, is_k.0))
 

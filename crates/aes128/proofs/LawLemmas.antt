@@ -161,7 +161,7 @@ unmix-mix_columns s block =
     (unmixed-mixed _ _ _ _ (column_bytes s block 2)) (unmixed-mixed _ _ _ _ (column_bytes s block 3))
     ∙ state_columns s block.0
 
--- two states that the key takes to one are one
+-- two states that become equal when the key is added are equal
 xor_one_to_one : (a b k : List ℕ) → IsBlock a → IsBlock b → IsBlock k → xor a k ≡ xor b k → a ≡ b
 xor_one_to_one a b k is_a is_b is_k e =
     sym (xor-twice a k (omega (arith, is_a.0, is_k.0))) ∙ ap (λ (s : List ℕ). xor s k) e ∙ xor-twice b k (omega (arith, is_b.0, is_k.0))

@@ -1,4 +1,4 @@
--- Bytes that are added: for the proofs of whoever adds them.
+-- Sums of bytes: lemmas for other proofs.
 use Rattle.std.proofs.Common.{◌≡◌, ℕ, suc, ◌≤◌, List, [], ◌∷◌, length, refl, ap, ◌∙◌, arith}
 use Rattle.std.specs.Int.Bits.{bit_xor, xor_assoc, xor_zero_r, xor_self}
 use Rattle.aes128.specs.Field.{◌⊕◌}
@@ -9,7 +9,7 @@ length-xor [] ys fits = refl
 length-xor (x ∷ xs) [] fits = absurd (omega arith)
 length-xor (x ∷ xs) (y ∷ ys) fits = ap suc (length-xor xs ys (omega arith))
 
--- to add the same bytes twice changes nothing
+-- adding the same bytes twice changes nothing
 pub xor-twice : (xs ys : List ℕ) → length xs ≤ length ys → xor (xor xs ys) ys ≡ xs
 xor-twice [] ys fits = refl
 xor-twice (x ∷ xs) [] fits = absurd (omega arith)

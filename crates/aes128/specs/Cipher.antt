@@ -13,7 +13,7 @@ IsBlock block = (length block ≡ 16) × All (λ byte. byte < 2 ^ 8) block
 abbrev pub block_of : ℕ → List ℕ
 block_of number = to_be_bytes w128 number
 
--- the sums of the bytes of two lists, place by place, as far as both go
+-- the sums of the bytes of two lists, place by place, up to the end of the shorter one
 abbrev pub xor : List ℕ → List ℕ → List ℕ
 xor [] bytes = []
 xor (a ∷ as') [] = []
@@ -63,8 +63,9 @@ mix_columns state = state_of_columns (λ c. mixed_column (column state c))
 abbrev pub rot_word : List ℕ → List ℕ
 rot_word word = drop 1 word ++ take 1 word
 
--- the next four words of the key schedule: each is the word four places before it plus the word
--- before it, which in the first place goes through RotWord, SubWord and a round constant (§5.2)
+-- the next four words of the key schedule. Each is the word four places before it plus the word
+-- just before it. In the first place that word first goes through RotWord, SubWord and a round
+-- constant (§5.2)
 abbrev pub next_round_key : ℕ → List ℕ → List ℕ
 next_round_key constant k =
     let w0 =
@@ -80,7 +81,7 @@ unfoldable pub round_key : List ℕ → ℕ → List ℕ
 round_key key zero = key
 round_key key (suc r) = next_round_key (power 2 r) (round_key key r)
 
--- the keys of rounds 0 to 10 of the first of them
+-- these are the keys of the rounds from 0 to 10 of the key that is the first of them
 pub record AreRoundKeys (keys : List (List ℕ)) : Type 0 where
   pub size : length (slice_index_or keys 0 []) ≡ 16
   pub each : (r : ℕ) → r < 11 → slice_index_or keys r [] ≡ round_key (slice_index_or keys 0 []) r

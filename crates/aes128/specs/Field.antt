@@ -22,7 +22,7 @@ terms_times (suc n) a b = (if a % 2 == 1 then b else 0) ⊕ times_x (terms_times
 unfoldable pub ◌•◌ : ℕ → ℕ → ℕ
 a • b = terms_times 8 a b
 
--- the element from 1 to n whose product with b is 1, or 0 where there is none
+-- the element from 1 to n whose product with b is 1, or 0 if there is none
 unfoldable pub inverse_up_to : ℕ → ℕ → ℕ
 inverse_up_to zero b = 0
 inverse_up_to (suc n) b = if b • suc n == 1 then suc n else inverse_up_to n b

@@ -4,8 +4,8 @@ use Rattle.std.specs.Int.{w8, rotate_left}
 use Rattle.aes128.specs.Field.{◌⊕◌, inverse, word_product}
 use Rattle.aes128.specs.Cipher.{xor, state_byte, column, state_of_columns, round_key}
 
--- what undoes the substitution of one byte: the affine map is undone, and then the inverse is taken
--- (§5.3.2)
+-- the inverse of the substitution of one byte: the affine map is undone, then the inverse element
+-- is taken (§5.3.2)
 unfoldable pub inv_s_box : ℕ → ℕ
 inv_s_box byte =
     inverse (rotate_left w8 byte 1 ⊕ rotate_left w8 byte 3 ⊕ rotate_left w8 byte 6 ⊕ 0x05)

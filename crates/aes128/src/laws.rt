@@ -1,10 +1,10 @@
-//! Laws of the cipher, and rows of the standard that its definitions give. Each stands on a
-//! function that does nothing.
+//! Laws of the cipher, and test vectors of the standard that its definitions give. Each law is the
+//! contract of a function that does nothing.
 ghost use Rattle.std.specs.Prelude.{◌≡◌, ℕ, List};
 ghost use Rattle.aes128.specs.Cipher.{IsBlock, block_of, ciphertext, round_key};
 ghost use Rattle.aes128.specs.InverseCipher.{plaintext};
 
-/// The encryption of a block is a block, and so is that of any list.
+/// The encryption of a block is a block. So is the encryption of any list.
 pub fn encryption_gives_a_block()
     ensures { (key block : List ℕ) → IsBlock key → IsBlock (ciphertext key block) }
 {}
@@ -22,7 +22,7 @@ pub fn decryption_undoes_encryption()
         → ciphertext key (plaintext key block) ≡ block }
 {}
 
-/// No two blocks have one encryption under a key.
+/// No two blocks have the same encryption under one key.
 pub fn encryption_is_one_to_one()
     ensures { (key a b : List ℕ) → IsBlock key → IsBlock a → IsBlock b
         → ciphertext key a ≡ ciphertext key b → a ≡ b }

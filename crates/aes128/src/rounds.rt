@@ -1,4 +1,4 @@
-// One round of the cipher, and what undoes it (FIPS 197 §5.1, §5.3).
+// One round of the cipher, and its inverse (FIPS 197 §5.1, §5.3).
 ghost use Rattle.std.specs.Prelude.{◌≡◌, ◌<◌, ◌+◌, ◌%◌, [], ◌∷◌, ◌++◌, map};
 ghost use Rattle.aes128.specs.Cipher.{xor, column, s_box, mixed_column, shifted_column, sub_bytes};
 ghost use Rattle.aes128.specs.Cipher.{shift_rows, mix_columns};
@@ -127,7 +127,7 @@ fn unmix(state: &mut [u8; 16])
     );
 }
 
-// What undoes a round.
+// The inverse of a round.
 #[inline(always)]
 pub fn unround(state: &mut [u8; 16], key: &[u8; 16])
     ensures { state.new ≡ inv_sub_bytes (inv_shift_rows (inv_mix_columns (xor state.old key.now))) }
@@ -137,7 +137,7 @@ pub fn unround(state: &mut [u8; 16], key: &[u8; 16])
     unshift(state);
 }
 
-// What undoes the last round.
+// The inverse of the last round.
 #[inline(always)]
 pub fn undo_last_round(state: &mut [u8; 16], key: &[u8; 16])
     ensures { state.new ≡ inv_sub_bytes (inv_shift_rows (xor state.old key.now)) }

@@ -10,7 +10,7 @@ use crate::sums::xor;
 use lw_types::Key;
 use std::marker::Model;
 
-/// The round keys of a key, computed once for any number of blocks. A contract sees the key.
+/// The round keys of a key, computed once for any number of blocks. In contracts it is the key.
 #[derive(Drop)]
 pub struct KeySchedule {
     round_keys: [[u8; 16]; 11],

@@ -43,8 +43,8 @@ static INVERSE_S_BOX: [u8; 256] = [
     0x17, 0x2b, 0x04, 0x7e, 0xba, 0x77, 0xd6, 0x26, 0xe1, 0x69, 0x14, 0x63, 0x55, 0x21, 0x0c, 0x7d,
 ];
 
-// Of each byte, the column that MixColumns makes of its substitution in row 0, the first byte
-// lowest.
+// For each byte, the column that MixColumns makes of its substitution in row 0, as a word whose
+// lowest byte comes first.
 static MIXED_S_BOX: [u32; 256] = [
     0xa56363c6, 0x847c7cf8, 0x997777ee, 0x8d7b7bf6, 0x0df2f2ff, 0xbd6b6bd6, 0xb16f6fde, 0x54c5c591,
     0x50303060, 0x03010102, 0xa96767ce, 0x7d2b2b56, 0x19fefee7, 0x62d7d7b5, 0xe6abab4d, 0x9a7676ec,
@@ -94,7 +94,7 @@ pub fn unsubstituted(byte: u8) -> u8
     INVERSE_S_BOX[byte as usize]
 }
 
-// The column that SubBytes, MixColumns and AddRoundKey make of these four bytes.
+// The column that SubBytes, MixColumns and AddRoundKey make from these four bytes.
 #[inline(always)]
 pub fn mixed_substituted(a: u8, b: u8, c: u8, d: u8, key: u32) -> [u8; 4]
     ensures { result ≡ xor (mixed_column (s_box a ∷ s_box b ∷ s_box c ∷ s_box d ∷ []))

@@ -1,8 +1,8 @@
-// The sum of two strings of bytes.
+// The sum of two byte strings.
 ghost use Rattle.std.specs.Prelude.{◌≡◌, ◌≤◌, length};
 ghost use Rattle.aes128.specs.Cipher.{xor};
 
-/// Adds the mask to the bytes, place by place: the exclusive or.
+/// Adds the mask to the bytes, place by place, by exclusive or.
 #[inline(always)]
 pub fn xor(bytes: &mut [u8], mask: &[u8])
     requires { length bytes.old ≤ length mask.now }

@@ -34,7 +34,7 @@ set-xor_filled [] bytes byte z room = absurd (omega arith)
 set-xor_filled (c ∷ chain) [] byte z room = ap (λ (n : ℕ). (n ⊕ byte) ∷ xor chain (replicate z 0)) (xor_zero_r c)
 set-xor_filled (c ∷ chain) (b ∷ bytes) byte z room = ap (λ (l : List ℕ). (c ⊕ b) ∷ l) (set-xor_filled chain bytes byte z (omega arith))
 
--- what has come later does not change the chain
+-- later bytes don't change the chain
 pub chained-append : (key message more : List ℕ) (n : ℕ) → 16 * n ≤ length message → chain_value key (message ++ more) n ≡ chain_value key message n
 unfolding chain_value
 chained-append key message more zero fits = refl
@@ -48,7 +48,7 @@ chained-append key message more (suc n) fits =
 pub length-after : (n : ℕ) (message : List ℕ) → length (after_blocks n message) ≡ length message - 16 * n
 length-after n message = length-drop (16 * n) message
 
--- a byte goes into a block that has room
+-- a byte is added to a block that has room
 pub IsChained-byte : (key block message : List ℕ) (used n byte : ℕ) → IsChained key block message used n → used < 16 → length block ≡ 16
     → set block used (get_or block used 0 ⊕ byte) ≡ xor (chain_value key message n) (after_blocks n message ++ byte ∷ replicate (15 - used) 0)
 IsChained-byte key block message used n byte held room size =
@@ -125,7 +125,7 @@ masked_short key last short =
       | inr other ↦ rw other.0 refl
     ]
 
--- the MAC of a message whose last block is whole, and of another
+-- the MAC of a message whose last block is whole, and of one whose last block isn't
 pub cmac-whole : (key block message : List ℕ) (used : ℕ) → IsChained key block message used (blocks_before_last message) → used ≡ 16
     → ciphertext key (xor block (first_subkey key)) ≡ cmac key message
 unfolding cmac

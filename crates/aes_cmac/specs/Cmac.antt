@@ -10,8 +10,7 @@ use Rattle.aes128.specs.Cipher.{xor, ciphertext}
 abbrev pub zero_block : List ℕ
 zero_block = replicate 16 0
 
--- 128 bits shifted left by one, as a number; where a 1 is shifted out, the number is added to 0x87
--- (§2.3)
+-- 128 bits shifted left by one, as a number; if a 1 is shifted out, 0x87 is added (§2.3)
 unfoldable pub double_number : ℕ → ℕ
 double_number n = if nat_lt n (2 ^ 127) then 2 * n else (2 * n - 2 ^ 128) ⊕ 0x87
 
@@ -26,12 +25,12 @@ first_subkey key = double (ciphertext key zero_block)
 abbrev pub second_subkey : List ℕ → List ℕ
 second_subkey key = double (first_subkey key)
 
--- how many whole blocks stand before the last one, which has 1 to 16 bytes, or none where the
+-- how many whole blocks come before the last one. The last one has 1 to 16 bytes, or none if the
 -- message is empty
 abbrev pub blocks_before_last : List ℕ → ℕ
 blocks_before_last message = (length message - 1) / 16
 
--- what stands after the first n blocks
+-- the bytes after the first n blocks
 abbrev pub after_blocks : ℕ → List ℕ → List ℕ
 after_blocks n message = drop (16 * n) message
 
@@ -41,8 +40,8 @@ chain_value key message zero = zero_block
 chain_value key message (suc n) =
     ciphertext key (xor (chain_value key message n) (take 16 (after_blocks n message)))
 
--- M_last: a whole last block is added to K1, another is padded with one bit 1 and zeros, and added
--- to K2 (§2.4, step 4)
+-- M_last: a last block that is whole is added to K1; otherwise it is padded with one bit 1 and
+-- zeros, and added to K2 (§2.4, step 4)
 abbrev pub masked_last : List ℕ → List ℕ → List ℕ
 masked_last key last =
     if length last == 16 then xor last (first_subkey key)
@@ -58,7 +57,7 @@ cmac key message =
 abbrev pub zero_padded : List ℕ → List ℕ
 zero_padded bytes = bytes ++ replicate (16 - length bytes) 0
 
--- a block in which the chain of the first n blocks and the bytes after them, at most 16, are added
+-- a block that is the sum of the chain of the first n blocks and the bytes after them, at most 16
 pub record IsChained (key block message : List ℕ) (used n : ℕ) : Type 0 where
   pub place : 16 * n + used ≡ length message
   pub added : block ≡ xor (chain_value key message n) (zero_padded (after_blocks n message))

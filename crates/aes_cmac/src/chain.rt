@@ -4,7 +4,7 @@ ghost use Rattle.aes_cmac.specs.Cmac.{IsChained, blocks_before_last, cmac, doubl
 
 use aes128::{KeySchedule, xor};
 
-// The bytes of the block that is not encrypted yet are added to it as they come.
+// The block that isn't encrypted yet: the bytes are added to it as they come.
 #[derive(Drop)]
 pub struct Chain {
     block: [u8; 16],
@@ -45,7 +45,7 @@ impl Chain {
         self.used += 1;
     }
 
-    // A whole block is encrypted only once another byte comes, since the last block is masked
+    // Encrypts a whole block, but only when another byte comes, since the last block is masked
     // first.
     fn make_room(&mut self, keys: &KeySchedule)
         ensures room { self.new.used < 16 }
@@ -59,7 +59,7 @@ impl Chain {
         }
     }
 
-    // The MAC, once the whole message has come.
+    // The MAC, after the whole message has come.
     pub fn finish(mut self, keys: &KeySchedule) -> [u8; 16]
         ensures { (message : List ℕ)
             → IsChained keys.now self.block message self.used (blocks_before_last message)

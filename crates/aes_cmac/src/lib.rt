@@ -1,4 +1,4 @@
-//! AES-CMAC (RFC 4493): a MAC of 16 bytes, of a message that comes in pieces.
+//! AES-CMAC (RFC 4493): a MAC of 16 bytes over a message given in pieces.
 #![tactic(auto)]
 
 ghost use Rattle.std.specs.Prelude.{◌≡◌};
@@ -11,7 +11,7 @@ use aes128::KeySchedule;
 use chain::Chain;
 use lw_types::Key;
 
-/// The MAC of the pieces, joined in their order.
+/// The MAC of the pieces, joined in order.
 pub fn cmac(key: &Key, pieces: &[&[u8]]) -> [u8; 16]
     ensures { result ≡ cmac key.now.0 (flat_map (λ piece. piece.now) pieces.now) }
 {

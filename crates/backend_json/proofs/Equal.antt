@@ -1,4 +1,4 @@
--- Objects that are equal have equal members.
+-- Equal objects have equal members.
 use Rattle.std.proofs.Common.{◌≡◌, ℕ, List, [], Option, None, Some, sym, ap, ◌∙◌, subst}
 use Rattle.std.specs.Option.{MatchOption}
 use Rattle.serde_json.specs.Data.{Data, Members, member, no_members, null, number, string, object, unsigned}
@@ -28,18 +28,18 @@ pub inside : {ms ns : Members} → object ms ≡ object ns → ms ≡ ns
 unfolding members_in
 inside e = ap members_in e
 
--- what is left behind a member of both
+-- the rest after a member of both
 pub behind : {ms ns os : Members} {k l : List ℕ} {d e : Data} → ms ≡ member k d ns → ms ≡ member l e os → ns ≡ os
 unfolding tail
 behind first second = ap tail (sym first ∙ second)
 
--- and behind two
+-- and after two
 pub behind_two : {ms ns os : Members} {k l m n : List ℕ} {d e f g : Data}
     → ms ≡ member k d (member l e ns) → ms ≡ member m f (member n g os) → ns ≡ os
 unfolding tail
 behind_two first second = ap tail (behind first second)
 
--- and behind five
+-- and after five
 pub behind_five : {ms ns os : Members} {k l m n o p q r s t : List ℕ} {d e f g h i j u v w : Data}
     → ms ≡ member k d (member l e (member m f (member n g (member o h ns))))
     → ms ≡ member p i (member q j (member r u (member s v (member t w os)))) → ns ≡ os
@@ -51,7 +51,7 @@ pub at_front : {ms ns os : Members} {k l : List ℕ} {d e : Data} → ms ≡ mem
 unfolding head
 at_front first second = ap head (sym first ∙ second)
 
--- texts that are one value, and whole numbers
+-- texts that are one value are equal, and so are whole numbers
 pub same_text : {s t : List ℕ} → string s ≡ string t → s ≡ t
 unfolding text_in
 same_text e = ap text_in e
@@ -60,7 +60,7 @@ pub same_number : {m n : ℕ} → number (unsigned m) ≡ number (unsigned n) �
 unfolding number_in
 same_number e = ap number_in e
 
--- nothing was found, and rightly
+-- nothing was found, and the definition finds nothing either
 pub refused : {A : Type 0} {N : Type 0} (S : A → Type 0) (result : Option A) → result ≡ None → N → MatchOption result N S
 refused {A} {N} S result is h = subst (λ (r : Option A). MatchOption r N S) (sym is) h
 

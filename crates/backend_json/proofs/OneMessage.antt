@@ -1,4 +1,4 @@
--- No two messages are one value.
+-- No two messages have the same value.
 use Rattle.std.proofs.Common.{rules, ◌≡◌, ℕ, List, [], ◌∷◌, ◌<◌, ◌^◌, ◌==◌, if◌then◌else◌, codes, length, refl, sym, ap, ◌∙◌}
 use Rattle.std.specs.Prelude.{get_or, slice_index, Result, Ok, Err, IfOk}
 use Rattle.serde_json.specs.Data.{Data, Members}
@@ -15,7 +15,7 @@ use Rattle.backend_json.specs.Messages.{IsAsk, join_req}
 use Rattle.backend_json.specs.Answers.{AreKeys, IsAns, aes_key, members_behind, description_of, join_ans, members_before, result_of}
 use Rattle.backend_json.proofs.Equal.{inside, behind, at_front, key_at_front, same_text, same_number}
 
--- what is known of the texts of values
+-- the laws about the texts of values
 pub record TextLaws : Type 0 where
   pub hex : (a b : List ℕ) → IsBytes a → IsBytes b → hex_text a ≡ hex_text b → a ≡ b
   pub euis : (a b : Eui) → a.0 < 2 ^ 64 → b.0 < 2 ^ 64 → eui_text a ≡ eui_text b → a ≡ b
@@ -65,7 +65,7 @@ same_question laws a b ia ib e =
     ∙ ap (λ (x : List ℕ). ask_of b.net_id b.dev_addr b.dl_settings b.rx_delay x a.transaction) request
     ∙ ap (λ (x : ℕ). ask_of b.net_id b.dev_addr b.dl_settings b.rx_delay b.request x) transaction
 
--- each description is that of one cause
+-- each description belongs to one cause
 described : List ℕ → Cause
 described s =
     if slice_index s 0 == 117 then UnknownDevEui
@@ -84,7 +84,7 @@ described-of DevNonceUsed = refl
 described-of JoinNonceSpent = refl
 described-of BadMessage = refl
 
--- the closings of two answers, whose outcomes are one value
+-- the ends of two answers whose outcomes are one value
 pub record SameEnds (a b : JoinAns) : Type 0 where
   pub receiver : a.receiver ≡ b.receiver
   pub sender : a.sender ≡ b.sender

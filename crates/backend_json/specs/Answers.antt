@@ -1,4 +1,4 @@
--- The answers of a join server, as the values that JSON texts are read as. The members stand in the
+-- The answers of a join server, as the values that JSON texts are read as. The members come in the
 -- byte order of their names, and there are no others.
 use Rattle.std.specs.Prelude.{◌≡◌, ◌<◌, ◌^◌, ℕ, List, [], length, Some, codes, Result, Ok, Err}
 use Rattle.std.specs.Prelude.{IfOk}
@@ -16,7 +16,7 @@ use Rattle.backend_json.specs.declared.join_ans.Cause.TheVariants.{BadMic, DevNo
 use Rattle.backend_json.specs.declared.join_ans.Cause.TheVariants.{JoinNonceSpent, BadMessage}
 use Rattle.backend_json.specs.declared.join_ans.JoinAns.{JoinAns}
 
--- a key stands in an object of its own
+-- a key is in an object of its own
 abbrev pub aes_key : Key → Data
 aes_key key = object (member (codes "AESKey") (string (key_text key)) no_members)
 
@@ -56,7 +56,7 @@ members_behind receiver result sender transaction =
     (member (codes "TransactionID") (number (unsigned transaction))
     no_members))))
 
--- and those before: a join that is granted has the two keys and the accept besides
+-- the members before those: for a granted join also the two keys and the accept
 abbrev pub members_before : Result Accepted Cause → Members → Members
 members_before (Ok accepted) rest =
     member (codes "AppSKey") (aes_key accepted.app_skey)
@@ -72,11 +72,11 @@ join_ans ans =
     object (members_before ans.result
     (members_behind ans.receiver (result_of ans.result) ans.sender ans.transaction))
 
--- a text is such an answer if it is read as it
+-- a text is this answer if it is read as it
 abbrev pub IsJoinAns : List ℕ → JoinAns → Type 0
 IsJoinAns text ans = read text ≡ Some (join_ans ans)
 
--- the values that an answer of a program has by its types
+-- what holds of an answer's values by their types
 abbrev pub IsSealed : List ℕ → Type 0
 IsSealed accept = IsBytes accept × (length accept ≡ 33)
 

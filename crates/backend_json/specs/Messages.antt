@@ -1,5 +1,5 @@
 -- The messages between a network and its join server, as the values that JSON texts are read as.
--- The members stand in the byte order of their names, and there are no others.
+-- The members come in the byte order of their names, and there are no others.
 use Rattle.std.specs.Prelude.{◌≡◌, ◌<◌, ◌≤◌, ◌^◌, ℕ, List, [], ◌∷◌, Some, codes}
 use Rattle.serde_json.specs.Data.{Data, Members, number, string, object, member, no_members}
 use Rattle.serde_json.specs.Data.{unsigned}
@@ -14,11 +14,11 @@ use Rattle.join_server.specs.declared.ask.JoinAsk.{JoinAsk}
 abbrev pub eui : ℕ → Eui
 eui n = record { 0 = n }
 
--- the channels that an accept is to add, which are always these
+-- the channels that an accept has to add; always the same
 abbrev pub cf_list_member : Members → Members
 cf_list_member rest = member (codes "CFList") (string (hex_text cf_list)) rest
 
--- the members of a question behind it, up to MessageType
+-- the members of a question after the CFList, up to MessageType
 abbrev pub device_members : ℕ → DevAddr → Eui → Members → Members
 device_members dl_settings dev_addr dev_eui rest =
     member (codes "DLSettings") (string (hex_text (dl_settings ∷ [])))
@@ -28,7 +28,7 @@ device_members dl_settings dev_addr dev_eui rest =
     (member (codes "MessageType") (string (codes "JoinReq"))
     rest))))
 
--- and from RxDelay on
+-- the members from RxDelay on
 abbrev pub network_members : ℕ → ℕ → ℕ → Members
 network_members rx_delay net_id transaction =
     member (codes "RxDelay") (number (unsigned rx_delay))
@@ -47,11 +47,11 @@ join_req ask =
     (member (codes "ReceiverID") (string (eui_text (eui (join_eui_of ask.request))))
     (network_members ask.rx_delay ask.net_id ask.transaction))))))
 
--- a text is such a message if it is read as it
+-- a text is this message if it is read as it
 abbrev pub IsJoinReq : List ℕ → JoinAsk → Type 0
 IsJoinReq text ask = read text ≡ Some (join_req ask)
 
--- the values that a question of a program has by its types
+-- what holds of a question's values by their types
 pub record IsAsk (ask : JoinAsk) : Type 0 where
   pub net_id : ask.net_id < 64
   pub dev_addr : ask.dev_addr.0 < 2 ^ 32

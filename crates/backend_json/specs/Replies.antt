@@ -16,7 +16,7 @@ use Rattle.backend_json.specs.declared.join_ans.Cause.TheVariants.{JoinNonceSpen
 use Rattle.backend_json.specs.declared.join_ans.JoinAns.{JoinAns}
 use Rattle.backend_json.specs.Messages.{IsAsk, IsJoinReq, eui}
 
--- the cause that stands for a refusal of the join server; it has no others
+-- the cause of a refusal of the join server; it refuses for no other reason
 abbrev pub cause_of : Refusal → Cause
 cause_of refusals.WrongJoinEui = WrongJoinEui
 cause_of refusals.BadMic = BadMic
@@ -38,13 +38,13 @@ ans_to ask result =
       transaction = ask.transaction;
     }
 
--- the reply of the join server: its answer, with the state of the device after a grant
+-- the join server's reply: its answer and, after a grant, the device's new state
 abbrev pub server_reply : JoinAsk → Result (JoinState × JoinGrant) Refusal
     → JoinAns × Option JoinState
 server_reply ask (Ok granted) = (ans_to ask (Ok (accepted_of granted.1)), Some granted.0)
 server_reply ask (Err refusal) = (ans_to ask (Err (cause_of refusal)), None)
 
--- the reply to a question, and the device's state where that has changed
+-- the reply to a question, and the device's state if it has changed
 abbrev pub reply : JoinState → JoinAsk → JoinAns × Option JoinState
 reply s ask =
     if dev_eui_of ask.request == s.dev_eui.0

@@ -1,4 +1,4 @@
-// The join server behind its texts.
+// The join server, asked by texts.
 ghost use Rattle.std.specs.Prelude.{◌≡◌, string_bytes, MatchResult};
 ghost use Rattle.serde_json.specs.Written.{compact_text};
 ghost use Rattle.lw_types.specs.declared.refusal.Refusal.TheVariants.{OutOfMemory};
@@ -11,10 +11,10 @@ use join_server::{JoinAsk, JoinState, answer};
 use lw_types::{NetId, Refusal};
 use std::alloc::Global;
 
-/// Answers a text that a network sends, for the device of the state: the text of the answer, and
-/// the device's state after a join that is granted. Every text is answered, with the first cause
-/// that there is: that it is no question, that the device is another one, and then those of
-/// [`answer`]. Refused with `OutOfMemory` alone.
+/// Answers a text from a network, for the device of the state. Returns the text of the answer and,
+/// after a granted join, the device's new state. Every text is answered. A refusal gives the first
+/// cause that applies: the text is no question, the question is about another device, and then the
+/// causes of [`answer`]. The only refusal of this call is `OutOfMemory`.
 pub fn answer_text(
     alloc: Global,
     state: &JoinState,
@@ -104,7 +104,7 @@ fn no_question(state: &JoinState) -> (JoinAns, Option<JoinState>)
     (ans, None)
 }
 
-// What an answer has by its types.
+// What holds of an answer by its types.
 fn answer_in_range(_ans: JoinAns)
     ensures { IsAns _ans }
 {}

@@ -1,4 +1,4 @@
-// The answer of a join server: a session is granted, or why it isn't.
+// The answer of a join server: a granted session, or why it isn't granted.
 ghost use Rattle.std.specs.Prelude.{◌≡◌, IfSome, Some};
 ghost use Rattle.backend_json.specs.declared.join_ans.Cause.{Cause};
 ghost use Rattle.backend_json.specs.Answers.{code_of, description_of};
@@ -6,7 +6,7 @@ ghost use Rattle.backend_json.specs.Answers.{code_of, description_of};
 use join_server::SealedAccept;
 use lw_types::{Eui, Key, NetId};
 
-/// A session that is granted: its keys, and the accept for the device.
+/// A granted session: its keys, and the accept for the device.
 #[derive(Clone, Copy, PartialEq, Eq)]
 pub struct Accepted {
     pub app_skey: Key,
@@ -21,7 +21,7 @@ pub enum Cause {
     UnknownDevEui,
     /// The device asks another join server.
     WrongJoinEui,
-    /// The Join-Request's MIC isn't that of its bytes.
+    /// The Join-Request's MIC is wrong for its bytes.
     BadMic,
     /// The DevNonce isn't above the last one.
     DevNonceUsed,
@@ -44,7 +44,7 @@ impl Cause {
         }
     }
 
-    /// The Description, by which each cause is known from the others.
+    /// The Description, which is different for each cause.
     pub fn description(self) -> &'static str
         ensures { result.now ≡ description_of self }
     {

@@ -32,10 +32,10 @@ pub fn join_req_text(alloc: Global, ask: &JoinAsk) -> Result<String, Refusal>
     Ok(ask_value(alloc, ask)?.to_string(alloc)?)
 }
 
-/// The question that a text is. Any other text is refused as `BadMessage`: white space and the
-/// order of the members are free, as JSON has them, and of a member that comes twice the last
-/// counts, but there are no others, numbers are whole, hex is in upper case, the CFList is that of
-/// the region, and the PHYPayload is a Join-Request of this DevEUI and JoinEUI.
+/// The question of a text. Any text that is no question is refused as `BadMessage`. White space and
+/// the order of members are free, as in JSON, and if a member comes twice the last one counts. But
+/// no other members are allowed, numbers have to be whole, and hex in upper case. The CFList has to
+/// be the region's, and the PHYPayload a Join-Request of this DevEUI and JoinEUI.
 pub fn read_join_req(alloc: Global, text: &str) -> Result<JoinAsk, Refusal>
     ensures found { IfOk result (λ ask. IsAsk ask × IsJoinReq text.now ask) }
     ensures refused { IfErr result (λ e. (e ≡ OutOfMemory)
@@ -64,7 +64,7 @@ fn ask_value(alloc: Global, ask: &JoinAsk) -> Result<Value, AllocError>
         .whole()
 }
 
-// The question that the value is.
+// The question of the value.
 fn ask_of(value: &Value) -> Option<JoinAsk>
     ensures { MatchOption result ((ask : JoinAsk) → IsAsk ask → view value.now ≢ join_req ask)
         (λ ask. IsAsk ask × (view value.now ≡ join_req ask)) }
@@ -118,7 +118,7 @@ fn device_fields(rest: &mut Rest<'_>) -> Option<(u8, DevAddr, Eui)>
     Some((dl_settings, dev_addr, dev_eui))
 }
 
-// The members from RxDelay on, and that no other follows.
+// The members from RxDelay on; no other follows them.
 fn network_of(rest: &mut Rest<'_>) -> Option<(RxDelay, NetId, u32)>
     ensures found { IfSome result
         (λ p. members_view rest.old.members ≡ network_members p.0 p.1 p.2) }

@@ -1,4 +1,4 @@
-// Texts and the values that they are read as, and objects that are written.
+// Reading JSON texts as values, and writing objects.
 ghost use Rattle.std.specs.Prelude.{◌≡◌, ◌⊎◌, ℕ, List, IfOk, MatchResult, Some, None};
 ghost use Rattle.serde_json.specs.Data.{Data, Members, string, number, unsigned};
 ghost use Rattle.serde_json.specs.Data.{put as with_member};
@@ -11,7 +11,7 @@ use serde_json::{Map, Value, put};
 use std::alloc::{AllocError, Global};
 use std::fmt;
 
-/// The value that the text is. Refused as `BadMessage` where it is none.
+/// The value of the text. Refused as `BadMessage` if the text is no JSON value.
 pub(crate) fn read_value(alloc: Global, text: &str) -> Result<Value, Refusal>
     ensures { MatchResult result (λ value. read text.now ≡ Some (view value))
         (λ e. (e ≡ OutOfMemory) ⊎ ((e ≡ BadMessage) × (read text.now ≡ None))) }
@@ -23,8 +23,8 @@ pub(crate) fn read_value(alloc: Global, text: &str) -> Result<Value, Refusal>
     }
 }
 
-/// An object that is written member by member. Where there is no memory for one of them, none is
-/// left: that is answered once, when the object is whole.
+/// An object that is written member by member. If memory runs out for one member, the whole object
+/// is lost; `whole` then returns the error, once.
 #[derive(Drop)]
 pub(crate) struct Object {
     alloc: Global,

@@ -1,12 +1,12 @@
-//! Laws of the texts. The functions do nothing: their contracts are the laws.
+//! The law of the texts. It is the contract of a function that does nothing.
 ghost use Rattle.std.specs.Prelude.{◌≡◌, ℕ, List};
 ghost use Rattle.join_server.specs.declared.ask.JoinAsk.{JoinAsk};
 ghost use Rattle.backend_json.specs.declared.join_ans.JoinAns.{JoinAns};
 ghost use Rattle.backend_json.specs.Answers.{IsAns, IsJoinAns};
 ghost use Rattle.backend_json.specs.Messages.{IsAsk, IsJoinReq};
 
-/// No text is of two questions, and none of two answers: what is read of a text that was written is
-/// what was written.
+/// No text is of two questions, and no text is of two answers. So reading a text that was written
+/// gives what was written.
 pub fn each_text_is_of_one_message()
     ensures questions { (text : List ℕ) (a b : JoinAsk) → IsAsk a → IsAsk b → IsJoinReq text a
         → IsJoinReq text b → a ≡ b }

@@ -8,14 +8,14 @@ use lw_types::FromText;
 use serde_json::Value;
 use std::collections::btree_map::Iter;
 
-/// The members of an object that are still to take.
+/// The members of an object that haven't been taken yet.
 #[derive(Drop)]
 pub(crate) struct Rest<'a> {
     members: Iter<'a, String, Value>,
 }
 
 impl<'a> Rest<'a> {
-    /// All members, where the value is an object.
+    /// All members, if the value is an object.
     pub(crate) fn of(value: &'a Value) -> Option<Self>
         ensures { MatchOption result
             ((members : Members) → view value.now ≢ object members)
@@ -26,7 +26,7 @@ impl<'a> Rest<'a> {
         })
     }
 
-    /// The next member, where it has this name.
+    /// The next member, if it has this name.
     fn next(&mut self, name: &str) -> Option<&'a Value>
         ensures { MatchOption result
             ((value : Data) (others : Members)
@@ -42,7 +42,7 @@ impl<'a> Rest<'a> {
         }
     }
 
-    /// The next member, where it has this name and is a text of such a value.
+    /// The next member, if it has this name and is the text of such a value.
     pub(crate) fn value<T: FromText>(&mut self, name: &str) -> Option<T>
         ensures value { IfSome result T.is_value }
         ensures found { IfSome result (λ value. members_view self.old.members
@@ -54,7 +54,7 @@ impl<'a> Rest<'a> {
         T::from_text(self.any_text(name)?)
     }
 
-    /// The text of the next member, where it has this name and is a text.
+    /// The text of the next member, if it has this name and is a text.
     pub(crate) fn any_text(&mut self, name: &str) -> Option<&'a str>
         ensures { MatchOption result
             ((text : List ℕ) (others : Members)
@@ -65,7 +65,7 @@ impl<'a> Rest<'a> {
         self.next(name)?.as_str()
     }
 
-    /// The next member, where it has this name and this text.
+    /// The next member, if it has this name and this text.
     pub(crate) fn text(&mut self, name: &str, text: &str) -> Option<()>
         ensures { MatchOption result
             ((others : Members) → members_view self.old.members
@@ -80,7 +80,7 @@ impl<'a> Rest<'a> {
         }
     }
 
-    /// The next member, where it has this name and is a whole number below 2^64.
+    /// The next member, if it has this name and is a whole number below 2^64.
     pub(crate) fn number(&mut self, name: &str) -> Option<u64>
         ensures { MatchOption result
             ((value : ℕ) (others : Members)
@@ -91,7 +91,7 @@ impl<'a> Rest<'a> {
         self.next(name)?.as_u64()
     }
 
-    /// The members of the next one, where it has this name and is an object.
+    /// The members of the next member, if it has this name and is an object.
     pub(crate) fn object(&mut self, name: &str) -> Option<Self>
         ensures { MatchOption result
             ((value others : Members) → members_view self.old.members
@@ -103,7 +103,7 @@ impl<'a> Rest<'a> {
         Rest::of(self.next(name)?)
     }
 
-    /// The sender and the number of the message, which are the last two members.
+    /// The sender and the number of the message. They are the last two members.
     pub(crate) fn sender<T: FromText + Copy>(&mut self) -> Option<(T, u32)>
         ensures value { IfSome result (λ p. T.is_value p.0) }
         ensures found { IfSome result (λ p. members_view self.old.members
@@ -121,7 +121,7 @@ impl<'a> Rest<'a> {
         Some((sender, transaction))
     }
 
-    /// That no member is left.
+    /// Succeeds if no member is left.
     pub(crate) fn end(&mut self) -> Option<()>
         ensures { MatchOption result (members_view self.old.members ≢ no_members)
             (λ _. members_view self.old.members ≡ no_members) }

@@ -1,4 +1,4 @@
-// Reading of answers.
+// Reading answers.
 ghost use Rattle.std.specs.Prelude.{◌≡◌, ◌≢◌, ◌⊎◌, ◌<◌, ◌^◌, ℕ, List, codes, [], Ok, Err, Some};
 ghost use Rattle.std.specs.Prelude.{IfOk, IfErr, IfSome, MatchOption};
 ghost use Rattle.serde_json.specs.Data.{Members, member, no_members, number, string, unsigned};
@@ -22,8 +22,8 @@ use lw_types::{Eui, HexArray, Key, NetId, Refusal};
 use serde_json::Value;
 use std::alloc::Global;
 
-/// The answer that a text is. Any other text is refused as `BadMessage`, as
-/// [`crate::read_join_req`] does.
+/// The answer of a text. Any text that is no answer is refused as `BadMessage`, by the rules of
+/// [`crate::read_join_req`].
 pub fn read_join_ans(alloc: Global, text: &str) -> Result<JoinAns, Refusal>
     ensures found { IfOk result (λ ans. IsAns ans × IsJoinAns text.now ans) }
     ensures refused { IfErr result (λ e. (e ≡ OutOfMemory)
@@ -42,7 +42,7 @@ fn ans_of(value: &Value) -> Option<JoinAns>
     }
 }
 
-// The answer that the value is, where that grants a session.
+// The answer of the value, if it grants a session.
 fn granted_of(value: &Value) -> Option<JoinAns>
     ensures { MatchOption result
         ((ans : JoinAns) (accepted : Accepted) → IsAns ans → ans.result ≡ Ok accepted
@@ -70,7 +70,7 @@ fn granted_of(value: &Value) -> Option<JoinAns>
     })
 }
 
-// The answer that the value is, where that refuses a join.
+// The answer of the value, if it refuses a join.
 fn refused_of(value: &Value) -> Option<JoinAns>
     ensures { MatchOption result
         ((ans : JoinAns) (cause : Cause) → IsAns ans → ans.result ≡ Err cause
@@ -90,7 +90,7 @@ fn refused_of(value: &Value) -> Option<JoinAns>
     })
 }
 
-// The key in the next member, where it has this name.
+// The key in the next member, if it has this name.
 fn key_of(rest: &mut Rest<'_>, name: &str) -> Option<Key>
     ensures found { IfSome result (λ key. IsKey key
         × (members_view rest.old.members
@@ -131,7 +131,7 @@ fn receiver_of(rest: &mut Rest<'_>) -> Option<NetId>
     rest.value("ReceiverID")
 }
 
-// That the Result is Success.
+// Succeeds if the Result is Success.
 fn success_of(rest: &mut Rest<'_>) -> Option<()>
     ensures { MatchOption result
         ((others : Members) → members_view rest.old.members

@@ -1,4 +1,4 @@
-// Writing of answers.
+// Writing answers.
 ghost use Rattle.std.specs.Prelude.{◌≡◌, codes, string_bytes, IfOk, Ok, MatchResult};
 ghost use Rattle.serde_json.specs.Data.{Members, string, number, object as object_value, member};
 ghost use Rattle.serde_json.specs.Data.{no_members, unsigned, put as with_member};
@@ -43,7 +43,7 @@ fn answer_value(alloc: Global, ans: &JoinAns) -> Result<Value, AllocError>
     }
 }
 
-// The members before ProtocolVersion of an answer that grants a session.
+// The members before ProtocolVersion, for an answer that grants a session.
 fn opening_of(alloc: Global, accepted: &Accepted) -> Object
     ensures { HoldsMembers result (members_before (Ok accepted.now) no_members) }
 {
@@ -70,7 +70,7 @@ fn outcome(alloc: Global, code: &str, description: &str) -> Object
         .text("ResultCode", code)
 }
 
-// Puts the members from ProtocolVersion on, the Result as it is given.
+// Puts the members from ProtocolVersion on, with this Result.
 fn closed(object: Object, ans: &JoinAns, outcome: Object) -> Object
     ensures { (members result_members : Members) → HoldsMembers object members
         → HoldsMembers outcome result_members → HoldsMembers result

@@ -26,7 +26,7 @@ found_some x = Some x
 pub some_is : {A : Type 0} (x y : A) → found_some x ≡ found_some y → x ≡ y
 some_is x y e = cc
 
--- which way a test went
+-- which way a test came out
 pub chosen_some : {A : Type 0} (b : Bool) (x y z : A) → cond b x y ≡ z
     → ((b ≡ true) × (x ≡ z)) ⊎ ((b ≡ false) × (y ≡ z))
 chosen_some true x y z e = inl (refl, e)
@@ -57,7 +57,7 @@ IsBytes-take n bytes fits i =
 
 -- ---- fields made of fields
 
--- a range in other words
+-- the same field, with its range stated in other words
 pub same_field : {X : Type 0} (In Other : X → Type 0) (spelled : X → List ℕ) (read : Reader X)
     → IsField In spelled read
     → ((x : X) → In x → Other x) → ((x : X) → Other x → In x) → IsField Other spelled read
@@ -94,7 +94,7 @@ both_field {X} {Y} A a first B b second fa fb = record {
       ∙ rw (fa.again p.0 (b p.1 ++ rest) h.0, fb.again p.1 rest h.1) refl;
 }
 
--- a field seen as another value, where each value in range is seen
+-- a field seen as another value, if each value in range is seen so
 pub seen_field : {X Y : Type 0} (In : X → Type 0) (spelled : X → List ℕ) (read : Reader X)
     → IsField In spelled read
     → (f : X → Y) (Seen : Y → Type 0) (other : Y → List ℕ)
@@ -204,7 +204,7 @@ flag_field = record {
   again = flag_again;
 }
 
--- a byte of length, and that many bytes
+-- a byte that gives a length, and this number of bytes
 pub counted_field : IsField (λ bytes. IsBytes bytes × (length bytes < 256)) counted_bytes counted_at
 unfolding counted_at
 counted_field = record {
@@ -245,7 +245,7 @@ optional_again : {X : Type 0} (In : X → Type 0) (spelled : X → List ℕ) (re
 optional_again In spelled read field None rest h = refl
 optional_again In spelled read field (Some x) rest h = rw (field.again x rest h) refl
 
--- a flag, and behind a 1 the field
+-- a flag and, after a 1, the field
 pub optional_field : {X : Type 0} (In : X → Type 0) (spelled : X → List ℕ) (read : Reader X)
     → IsField In spelled read
     → IsField (λ o. IfSome o In) (optional spelled) (optional_at read)

@@ -5,7 +5,7 @@ use Rattle.std.specs.Int.{Width, w32, w64, byte_len, from_be_bytes, from_le_byte
 use Rattle.lw_types.specs.declared.identifiers.Eui.{Eui}
 use Rattle.lw_types.specs.declared.key.Key.{Key}
 
--- a field at the front of some bytes, and the bytes after it; or none
+-- a field at the front of some bytes, and the bytes after it; or nothing
 abbrev pub Reader : Type 0 → Type 0
 Reader X = List ℕ → Option (X × List ℕ)
 
@@ -14,21 +14,21 @@ abbrev pub ◌>>=◌ : {A B : Type 0} → Option A → (A → Option B) → Opti
 None >>= f = None
 (Some x) >>= f = f x
 
--- ---- what a function answers
+-- ---- what a function returns
 
--- what a function answers, seen by view, and what it leaves to read, is what reading gives
+-- what a function returns, seen by view, and what it leaves to read, is what reading gives
 abbrev pub GivesSeen : {X Y : Type 0} → (Y → X) → Option Y → List ℕ → Option (X × List ℕ) → Type 0
 GivesSeen view (Some y) left read = read ≡ Some (view y, left)
 GivesSeen view None left read = read ≡ None
 
--- what a function answers, and what it leaves to read, is what reading gives
+-- what a function returns, and what it leaves to read, is what reading gives
 abbrev pub Gives : {X : Type 0} → Option X → List ℕ → Option (X × List ℕ) → Type 0
 Gives (Some x) left read = read ≡ Some (x, left)
 Gives None left read = read ≡ None
 
 -- ---- fields made of fields
 
--- two fields, one behind the other
+-- two fields, one after the other
 abbrev pub both : {X Y : Type 0} → Reader X → Reader Y → Reader (X × Y)
 both first second bytes =
     first bytes >>= λ x. second x.1 >>= λ y. Some ((x.0, y.0), y.1)
@@ -77,11 +77,11 @@ flag_at (zero ∷ rest) = Some (false, rest)
 flag_at (suc zero ∷ rest) = Some (true, rest)
 flag_at (suc (suc byte) ∷ rest) = None
 
--- a byte of length, and that many bytes
+-- a byte that gives a length, and this number of bytes
 unfoldable pub counted_at : Reader (List ℕ)
 counted_at bytes = byte_at bytes >>= λ n. front_at n.0 n.1
 
--- a flag, and behind a 1 the field
+-- a flag and, after a 1, the field
 abbrev pub optional_at : {X : Type 0} → Reader X → Reader (Option X)
 optional_at field bytes =
     flag_at bytes >>= λ f. if f.0 then seen_as Some field f.1 else Some (None, f.1)

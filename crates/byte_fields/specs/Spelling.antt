@@ -11,11 +11,11 @@ flag true = 1 ∷ []
 abbrev pub three_be_bytes : ℕ → List ℕ
 three_be_bytes n = bytes_high_first 3 n
 
--- a byte of length, and that many bytes
+-- a byte that gives the length, and the bytes
 abbrev pub counted_bytes : List ℕ → List ℕ
 counted_bytes bytes = length bytes ∷ bytes
 
--- a flag, and behind a 1 the field
+-- a flag and, after a 1, the field
 abbrev pub optional : {X : Type 0} → (X → List ℕ) → Option X → List ℕ
 optional spelled None = 0 ∷ []
 optional spelled (Some x) = 1 ∷ spelled x

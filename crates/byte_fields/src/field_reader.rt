@@ -7,8 +7,8 @@ ghost use Rattle.byte_fields.specs.Reading.{le_eui_at, ranged_at, three_be_bytes
 
 use lw_types::{Eui, Key, Ranged};
 
-/// The bytes that are left to read. Each call reads the field at their front and passes it, or
-/// answers `None` where no such field stands there.
+/// The bytes that are left to read. Each call reads the field at their front and moves past it, or
+/// returns `None` if there is no such field.
 #[derive(Clone, Copy)]
 pub struct FieldReader<'a> {
     pub rest: &'a [u8],
@@ -119,7 +119,7 @@ impl<'a> FieldReader<'a> {
         }
     }
 
-    /// A byte of length, and that many bytes.
+    /// A byte that gives a length, and this number of bytes.
     #[tactic(auto, unfolding(crate::specs::Reading::counted_at))]
     pub fn counted(&mut self) -> Option<&'a [u8]>
         ensures { GivesSeen (λ bytes. bytes.now) result self.new.rest.now

@@ -1,7 +1,7 @@
-//! Fields of bytes: what frames and records are made of, read one after another.
+//! Fields of bytes: the parts of frames and records, read one after another.
 //!
-//! A field is read at the front of some bytes, or it isn't there. How that is refused is the
-//! codec's own matter, so reading answers an `Option`. Reading takes no memory.
+//! A field either stands at the front of the bytes or is missing. The codec decides how to refuse a
+//! missing field, so reading returns an `Option`. Reading takes no memory.
 #![tactic(auto)]
 
 mod field_reader;

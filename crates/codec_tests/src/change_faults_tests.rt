@@ -1,4 +1,4 @@
-// Bytes that are no change of a record.
+// Bytes that aren't a change of a record.
 use crate::change_tests::{
     AWAITED_1, END, GRANTED, IN_USE, IN_USE_ON_EIGHT, NEW, Numbers, PENDING_ON_EIGHT, found,
     spelled,
@@ -8,8 +8,8 @@ use lw_types::Refusal;
 use record_codec::{read_change, read_change_v1};
 use std::alloc::Global;
 
-// A record with so many items, and bytes that are no change of it in either version. The count of
-// uplinks is at its end, so that bit 7 is none in version 2 either.
+// A record with this number of items, and bytes that aren't a change of it in either version. The
+// count of uplinks is at its end, so bit 7 isn't allowed in version 2 either.
 type Fault = (Numbers, u32, &'static str, &'static str);
 
 const FAULTS: &[Fault] = &[
@@ -181,7 +181,7 @@ const FAULTS: &[Fault] = &[
     (IN_USE, 1, "50 01 00000009", "no byte of the items"),
 ];
 
-// What such bytes are refused in version 1, and in version 2.
+// The refusal of such bytes in version 1, and in version 2.
 fn refused(alloc: Global, fault: &Fault) -> Option<(Refusal, Refusal)> {
     let (numbers, waiting, words, _) = fault;
     let mut before = found(alloc, numbers, *waiting)?;

@@ -16,7 +16,7 @@ use record_codec::{
 };
 use std::alloc::Global;
 
-// What a record has besides its items and what its device was provisioned with.
+// What a record has in addition to its items and what its device was provisioned with.
 pub(crate) struct Numbers {
     dev_nonce: Option<u16>,
     granted: u32,
@@ -27,7 +27,7 @@ pub(crate) struct Numbers {
     pending: Option<u32>,
     pending_channels: Channels,
     awaited: Option<u32>,
-    /// How many MAC commands wait.
+    /// The number of MAC commands that wait.
     commands: usize,
 }
 
@@ -185,7 +185,7 @@ pub(crate) const AWAITED_1: Numbers = Numbers {
     ..IN_USE
 };
 
-// What becomes of the items.
+// What happens to the items.
 enum Items {
     Same,
     Leaves,
@@ -225,7 +225,7 @@ fn activation(numbers: &Numbers) -> Option<Activation> {
     Activation::new(JoinNonce::new(numbers.granted), in_use, pending)
 }
 
-// So many commands DevStatusReq.
+// This number of commands DevStatusReq.
 fn commands(alloc: Global, count: usize) -> Option<MacQueue> {
     match vec![in alloc; 6u8; count] {
         Ok(bytes) => MacQueue::new(bytes).ok(),
@@ -250,7 +250,7 @@ fn with_numbers(alloc: Global, device: Device, numbers: &Numbers) -> Option<Devi
     Some(after)
 }
 
-// A record in which so many items wait.
+// A record in which this number of items wait.
 pub(crate) fn found(alloc: Global, numbers: &Numbers, waiting: u32) -> Option<Device> {
     let mut device = with_numbers(alloc, new_device(alloc, DEVICE)?, numbers)?;
     device.items = ItemQueue::new(items(alloc, waiting, 1)?).ok()?;
@@ -281,7 +281,7 @@ fn change_items(alloc: Global, queue: &mut ItemQueue, items: &Items) -> Option<(
     }
 }
 
-// One more uplink is counted, where the count isn't at its end.
+// One more uplink is counted, if the count isn't at its end.
 fn count(heard: &mut UplinkCount) -> Option<()>
     ensures { OnSome result (IsHeardAfter heard.old heard.new) }
 {
@@ -302,7 +302,7 @@ fn with_change(alloc: Global, before: &Device, after: &Numbers, items: &Items) -
     Some(device)
 }
 
-// The record with other numbers, and one uplink more.
+// The record with other numbers, and one more uplink.
 fn with_one_more(alloc: Global, before: &Device, after: &Numbers) -> Option<Device>
     ensures { IfSome result (λ after. MayBecome before.now after) }
 {
@@ -314,7 +314,7 @@ fn with_one_more(alloc: Global, before: &Device, after: &Numbers) -> Option<Devi
     Some(device)
 }
 
-// The bytes of these words, each once or, as in AA*16, so many times.
+// The bytes of these words, each once or, for example in AA*16, this number of times.
 pub(crate) fn spelled(alloc: Global, words: &str) -> Option<Vec<u8>> {
     let mut bytes = Vec::new(alloc);
     for word in words.split(' ') {
@@ -328,7 +328,8 @@ pub(crate) fn spelled(alloc: Global, words: &str) -> Option<Vec<u8>> {
     Some(bytes)
 }
 
-// A record with so many items, the numbers and the items after it, and the bytes of the change.
+// A record with this number of items, the numbers and the items after it, and the bytes of the
+// change.
 type Step = (Numbers, u32, Numbers, Items, &'static str);
 
 const STEPS: &[Step] = &[
@@ -452,7 +453,7 @@ const STEPS: &[Step] = &[
     ),
 ];
 
-// Appends the change in version 1, where that tells all of the record.
+// Appends the change in version 1, if that expresses the whole record.
 fn put_old_change(before: &Device, after: &Device, out: &mut Vec<u8>) -> Result<(), Refusal>
     requires { MayBecome before.now after.now }
 {
@@ -489,7 +490,7 @@ fn read(
     }
 }
 
-// The bytes of the change, which is written behind 9 and read back.
+// The bytes of the change, which is written after 9 and read back.
 fn change_of(
     alloc: Global,
     version: RecordVersion,
@@ -518,7 +519,7 @@ fn change(alloc: Global, step: &Step) -> Option<Vec<u8>> {
     if first == second { Some(second) } else { None }
 }
 
-// What is wrong in the table, a line a row.
+// What is wrong in the table, one line for each row.
 fn wrong_steps(alloc: Global) -> Result<String, Refusal> {
     let mut wrong = String::new(alloc);
     for (number, step) in STEPS.iter().enumerate() {
@@ -542,7 +543,7 @@ fn a_change_is_what_differs(rt: HostRuntime) {
 }
 
 // Uplinks that are counted: a record with this count, the numbers after it, and the bytes of the
-// change to those and one uplink more.
+// change to those and one more uplink.
 const COUNTED: &[(Numbers, u64, Numbers, &str)] = &[
     (IN_USE, 0, IN_USE, "80"),
     (IN_USE, 0, UPLINK, "84 00000006 0000000000000003"),
@@ -560,7 +561,7 @@ const COUNTED: &[(Numbers, u64, Numbers, &str)] = &[
     ),
 ];
 
-// Whether the change to these numbers and one uplink more has these bytes.
+// Whether the change to these numbers and one more uplink has these bytes.
 fn is_counted(alloc: Global, row: &(Numbers, u64, Numbers, &str)) -> Option<bool> {
     let (numbers, heard, others, words) = row;
     let mut before = found(alloc, numbers, 0)?;
@@ -576,7 +577,7 @@ fn a_count_that_grows_is_bit_7(rt: HostRuntime) {
     }
 }
 
-// A count at its end, where it stays: the change of an uplink, in version 2.
+// A count at its end, which stays there: the change of an uplink, in version 2.
 fn stays(alloc: Global) -> Option<bool> {
     let mut before = found(alloc, &IN_USE, 0)?;
     before.heard = UplinkCount::new(END)?;
@@ -600,7 +601,7 @@ const LONGEST_OF_2: Numbers = Numbers {
     ..ALL
 };
 
-// How long the change to these numbers and an item of 242 bytes is.
+// The length of the change to these numbers and an item of 242 bytes.
 fn len_of(alloc: Global, version: RecordVersion, after: &Numbers) -> Option<usize> {
     let before = found(alloc, &IN_USE, 0)?;
     let after = with_change(alloc, &before, after, &AddedLong)?;
@@ -618,8 +619,8 @@ fn a_change_has_at_most_411_or_475_bytes(rt: HostRuntime) {
 // The end of a count.
 pub(crate) const END: u64 = 9_223_372_036_854_775_807;
 
-// A record with this count, bytes of a change of it in a version, and the count after it or as what
-// they are refused.
+// A record with this count, bytes of a change of it in a version, and the count after it or the
+// refusal.
 const READ: &[(RecordVersion, u64, &str, Result<u64, Refusal>)] = &[
     (V1, 0, "80", Err(Refusal::Damaged)),
     (V1, 5, "80", Err(Refusal::Damaged)),

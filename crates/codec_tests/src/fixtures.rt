@@ -1,4 +1,4 @@
-// Values that several tests are about.
+// Values that several tests use.
 use devices::{
     Application, Channels, CurrentSession, Device, Item, NextDown, Payload, Port, Provisioning,
     Rx1Offset, RxDelay, Session, Tag,
@@ -16,7 +16,7 @@ pub const KEY: Key = Key([
     0x2B, 0x7E, 0x15, 0x16, 0x28, 0xAE, 0xD2, 0xA6, 0xAB, 0xF7, 0x15, 0x88, 0x09, 0xCF, 0x4F, 0x3C,
 ]);
 
-// A device of application 3, with RX1 after a second.
+// A device of application 3, with RX1 after one second.
 pub fn provisioning(dev_eui: Eui) -> Option<Provisioning> {
     Some(Provisioning {
         application: Application::new(3)?,
@@ -50,7 +50,7 @@ pub fn current(number: u32, last_up: u32) -> Option<CurrentSession> {
     })
 }
 
-// An item of so many bytes.
+// An item of this number of bytes.
 pub fn item(alloc: Global, tag: u32, len: usize) -> Option<Item> {
     let port = Port::new(223)?;
     let Ok(bytes) = vec![in alloc; 0xA5; len] else {
@@ -67,7 +67,7 @@ pub fn item(alloc: Global, tag: u32, len: usize) -> Option<Item> {
     }
 }
 
-// So many items of this length, tagged from 0 on.
+// This number of items of this length, with tags from 0 on.
 pub fn items(alloc: Global, count: u32, len: usize) -> Option<Vec<Item>> {
     let mut items = Vec::new(alloc);
     for tag in 0..count {
@@ -78,7 +78,7 @@ pub fn items(alloc: Global, count: u32, len: usize) -> Option<Vec<Item>> {
     Some(items)
 }
 
-// Appends the record in version 1 of a device of which that tells all.
+// Appends the record in version 1 of a device that version 1 can express.
 pub fn put_old_record(device: &Device, out: &mut Vec<u8>) -> Result<(), Refusal> {
     if device.heard.get() == 0 && device.mac_queue.as_slice().len() <= 64 {
         write_device_v1(device, out)
@@ -87,7 +87,7 @@ pub fn put_old_record(device: &Device, out: &mut Vec<u8>) -> Result<(), Refusal>
     }
 }
 
-// The bytes of a text, and so many of this one behind them.
+// The bytes of a text, and after them this number of bytes of this value.
 pub fn bytes(alloc: Global, hex: &str, filling: u8, count: usize) -> Option<Vec<u8>> {
     let Ok(mut bytes) = read_hex(alloc, hex) else {
         return None;

@@ -1,5 +1,5 @@
-//! Tests of the public calls of records, their changes, and the store's layout. They stand above
-//! those crates, so that each of these is proved once.
+//! Tests of the public calls of records, their changes, and the store's layout. This crate stands
+//! above theirs, so that each of those is proved once.
 #![tactic(auto)]
 
 #[cfg(test)]

@@ -26,12 +26,12 @@ fn both_sessions() -> Option<Activation> {
     Activation::new(JoinNonce::new(0x01_0204), Some(current), Some(pending))
 }
 
-// What a device has beyond what it was provisioned with.
+// What a device has in addition to what it was provisioned with.
 enum Has {
     /// A pending session.
     Pending,
-    /// Both sessions, a tag awaited, a DevNonce of 0, the MAC commands of a text and so many of 06
-    /// behind them, and so many items of this length.
+    /// Both sessions, a tag awaited, a DevNonce of 0, the MAC commands of a text and this number of
+    /// bytes 06 after them, and this number of items of this length.
     All(&'static str, usize, u32, usize),
 }
 
@@ -81,7 +81,7 @@ fn is_read(alloc: Global, version: RecordVersion, record: &[u8], device: &Device
     }
 }
 
-// What is there when the device's record is written behind these bytes.
+// The bytes after the device's record is written after these bytes.
 fn written(
     alloc: Global,
     version: RecordVersion,
@@ -101,7 +101,7 @@ fn written(
     }
 }
 
-// The record of the device, which is read as the device, and written behind 9 too.
+// The record of the device, which is read as the device, and also written after 9.
 fn record_of(alloc: Global, version: RecordVersion, device: &Device) -> Option<Vec<u8>> {
     let out = written(alloc, version, &[], device)?;
     let behind = written(alloc, version, &[9], device)?;
@@ -126,7 +126,7 @@ fn a_new_device_has_50_or_58_bytes(rt: HostRuntime) {
     assert!(rt; is_brought(rt.alloc()) == Some(true));
 }
 
-// How many bytes the device's record has in a version.
+// The number of bytes of the device's record in a version.
 fn len_of(alloc: Global, version: RecordVersion, has: &Has) -> Option<usize> {
     let device = device(alloc, has)?;
     Some(record_of(alloc, version, &device)?.len())
@@ -162,7 +162,7 @@ const COUNTS: &[(u64, [u8; 8])] = &[
     ),
 ];
 
-// Whether the record of a new device with this count ends so, and is read back.
+// Whether the record of a new device with this count ends with these bytes, and is read back.
 fn ends_with(alloc: Global, heard: u64, bytes: &[u8; 8]) -> Option<bool> {
     let mut device = new_device(alloc, DEVICE)?;
     device.heard = UplinkCount::new(heard)?;
@@ -180,7 +180,7 @@ fn uplinks_are_counted_at_the_end(rt: HostRuntime) {
     }
 }
 
-// The byte of a version, and which it is.
+// A byte, and the version that has it.
 const VERSIONS: &[(u8, Option<RecordVersion>)] = &[
     (0, None),
     (1, Some(V1)),
@@ -197,8 +197,8 @@ fn there_are_two_versions_and_the_second_is_written(rt: HostRuntime) {
     assert!(rt; (V1.byte(), V2.byte(), NEWEST.byte()) == (1, 2, 2));
 }
 
-// A place of a new device's record behind which a 0 stands, another byte there, and how many bytes
-// are read, as a record of either version.
+// A place of a new device's record after which a 0 stands, another byte there, and the number of
+// bytes that are read as a record of either version.
 const FAULTS: &[(RecordVersion, usize, u8, usize, &str)] = &[
     (V1, 32, 16, 50, "application"),
     (V1, 33, 6, 50, "RX1DROffset"),
@@ -229,7 +229,7 @@ const FAULTS: &[(RecordVersion, usize, u8, usize, &str)] = &[
     (V2, 50, 0, 0, "no byte in version 2"),
 ];
 
-// What such bytes are refused.
+// The refusal of such bytes.
 fn refused(
     alloc: Global,
     version: RecordVersion,
@@ -251,7 +251,7 @@ fn a_field_out_of_range_or_another_length_is_damaged(rt: HostRuntime) {
     }
 }
 
-// What a new device's record is refused where so many commands 06 wait in it, if it is.
+// The refusal of a new device's record in which this number of commands 06 wait, if it is refused.
 fn queue_refused(alloc: Global, version: RecordVersion, waiting: u8) -> Option<Refusal> {
     let mut record = PROVISIONED[..48].to_vec(alloc).ok()?;
     record.push(waiting).ok()?;
@@ -264,7 +264,7 @@ fn queue_refused(alloc: Global, version: RecordVersion, waiting: u8) -> Option<R
     read(alloc, version, record.as_slice()).err()
 }
 
-// How many commands wait, and whether a record of a version has so many.
+// The number of commands that wait, and whether a record of a version can have them.
 const QUEUES: &[(RecordVersion, u8, bool)] = &[
     (V1, 1, true),
     (V1, 64, true),
@@ -290,7 +290,7 @@ fn a_mac_queue_has_at_most_64_or_128_bytes(rt: HostRuntime) {
 }
 
 // The record of a device with a session in use and a pending one, as it was stored before devices
-// had eight channels. The bytes in front of the sessions are 01.
+// had eight channels. The bytes before the sessions are 01.
 const OF_AN_EARLIER_STORE: &str = concat!(
     "111213141516171801020304050607082B7E151628AED2A6ABF7158809CF4F3C030001000000010204010102",
     "03AAAAAAAAAAAAAAAAAAAAAAAAAAAAAAAABBBBBBBBBBBBBBBBBBBBBBBBBBBBBBBBFFFFFFFF00000001000000",
@@ -302,8 +302,8 @@ const CURRENT: usize = 41;
 
 const PENDING: usize = 89;
 
-// The channels of both sessions of the device that is read where these bytes stand there. The
-// device is written so again.
+// The channels of both sessions of the device that is read if these bytes stand at those places.
+// Writing the device gives the same bytes.
 fn channels_read(alloc: Global, current: u8, pending: u8) -> Option<(Channels, Channels)> {
     let mut record = read_hex(alloc, OF_AN_EARLIER_STORE).ok()?;
     *record.get_mut(CURRENT)? = current;
@@ -316,7 +316,7 @@ fn channels_read(alloc: Global, current: u8, pending: u8) -> Option<(Channels, C
     Some((in_use.channels, device.activation.pending()?.channels))
 }
 
-// What stands in front of each session, and what it tells.
+// What stands before each session, and what it means.
 const CHANNELS: &[(u8, u8, Option<(Channels, Channels)>)] = &[
     (1, 1, Some((Channels::Three, Channels::Three))),
     (1, 2, Some((Channels::Three, Channels::Eight))),

@@ -48,7 +48,7 @@ const OTHER_SUPERBLOCKS: &[(usize, u8, Refusal)] = &[
     (31, 0x01, Refusal::Damaged),
 ];
 
-// What the superblock is refused with another byte at a place.
+// The refusal of the superblock with another byte at a place.
 fn refused(at: usize, byte: u8) -> Option<Refusal> {
     let mut bytes = SUPERBLOCK;
     *bytes.get_mut(at)? = byte;
@@ -65,7 +65,7 @@ fn another_superblock_is_refused(rt: HostRuntime) {
     }
 }
 
-// Whether the entry of a device, with a record of 58 bytes, stands behind a byte.
+// Whether the entry of a device, with a record of 58 bytes, stands after a byte.
 fn has_entry(alloc: Global) -> Result<bool, Refusal> {
     let mut bytes = [7].to_vec(alloc)?;
     let device = new_device(alloc, Eui(0x1112131415161718)).ok_or(Refusal::Damaged)?;
@@ -86,7 +86,7 @@ fn new_table(alloc: Global, most: u64) -> Result<Table, Refusal> {
     Table::new(alloc, net_id()?, slots(most)?)
 }
 
-// Puts the record of a decision on the table, where that admits it.
+// Puts the record of a decision on the table, if that admits it.
 fn apply(table: &mut Table, seq: u64, decision: &Decision) -> Result<(), Refusal> {
     if table.admits(seq, decision) {
         table.apply(decision)
@@ -134,7 +134,7 @@ fn put_old_batch(decisions: &[Decision], bytes: &mut Vec<u8>) -> Result<(), Refu
     Ok(())
 }
 
-// The entries of a batch of so many provisionings.
+// The entries of a batch of this number of provisionings.
 fn entries(alloc: Global, version: RecordVersion, count: u64) -> Result<Vec<u8>, Refusal> {
     let mut batch = Batch::new(alloc)?;
     add_all(alloc, &mut new_table(alloc, 64)?, &mut batch, count)?;
@@ -146,11 +146,11 @@ fn entries(alloc: Global, version: RecordVersion, count: u64) -> Result<Vec<u8>,
     Ok(bytes)
 }
 
-// How many devices a table has, and in which slot that of a DevEUI is.
+// The number of devices of a table, and the slot of the one with a DevEUI.
 type Replayed = (usize, Option<u16>);
 
-// So many bytes of the entries are read as so many, on the table, which then has the device of that
-// DevEUI.
+// Reads this number of bytes of the entries as this number of entries, on the table, which then has
+// the device of that DevEUI.
 fn replayed(
     alloc: Global,
     version: RecordVersion,
@@ -166,9 +166,9 @@ fn replayed(
     Ok((table.devices().len(), table.slot_of(Eui(u64::from(count)))))
 }
 
-// In which version how many provisionings of a batch are written, and the length of their entries;
-// in which one how many bytes of them are read as how many entries, on a table of how many slots;
-// and what that leads to.
+// The version in which a number of provisionings of a batch are written, and the length of their
+// entries; the version in which a number of bytes of them are read as a number of entries, on a
+// table of a number of slots; and what that leads to.
 type Replay = (
     (RecordVersion, u64, usize),
     (RecordVersion, usize, u32, u64),

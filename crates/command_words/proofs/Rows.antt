@@ -74,7 +74,7 @@ pub no_file : (asked : Option (Text × List Row)) (name : Text) (rows : List Row
 no_file asked name rows e none =
     no_mode asked name rows e (λ m _ _ file _. none-some (mode_file m) (sym none ∙ file))
 
--- a number by which the words of commands are told apart
+-- a number that differs between the words of commands
 abbrev key : Text → ℕ
 key word = 1000 * slice_index word 0 + slice_index word 2
 

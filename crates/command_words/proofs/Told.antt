@@ -1,4 +1,4 @@
--- From what is told of an answer of clap to why words ask for nothing.
+-- From the text of clap's answer to why words ask for nothing.
 use Rattle.std.proofs.Common.{◌≡◌, List, [], inl, inr, rules}
 use Rattle.clap.specs.Words.{HasKind, Text, fault_of, kind_of, subcommand_of}
 use Rattle.clap.specs.declared.error.Error.{Error}

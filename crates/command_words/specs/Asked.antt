@@ -36,7 +36,7 @@ command_word (mode.Watch file) = codes "watch"
 command_word (mode.Status file wait) = codes "status"
 command_word (mode.Restore file new_file grants above) = codes "restore"
 
--- the file that it is about
+-- the file that it names
 abbrev pub mode_file : Mode → Text
 mode_file (mode.Format file net_id slots) = file.now
 mode_file (mode.List file) = file.now
@@ -81,7 +81,7 @@ IsInRange (mode.Watch file) = Unit
 IsInRange (mode.Status file wait) = wait ≤ 3600
 IsInRange (mode.Restore file new_file grants above) = (1 ≤ grants) × (grants ≤ 65536)
 
--- a command asks for nothing that is in its ranges
+-- no mode of a command is in its ranges
 abbrev pub HasNoMode : Option (Text × List Row) → Type 0
 HasNoMode asked = (m : Mode) → IsInRange m → IsModeOf asked m → ⊥
 
@@ -89,17 +89,18 @@ HasNoMode asked = (m : Mode) → IsInRange m → IsModeOf asked m → ⊥
 abbrev pub IsShown : ErrorKind → Type 0
 IsShown kind = (kind ≡ DisplayHelp) ⊎ (kind ≡ DisplayVersion)
 
--- what is told of an answer of clap
+-- the text that is printed for an answer of clap
 abbrev pub IsToldOf : ErrorKind → Usage → Type 0
 IsToldOf kind (usage.Words text) = (kind ≢ OutOfMemory) × ¬ IsShown kind
 IsToldOf kind (usage.Help text) = (kind ≢ OutOfMemory) × IsShown kind
 IsToldOf kind usage.Memory = Unit
 
--- these words ask for this, and clap finds no fault of them
+-- these words ask for this, and clap finds no fault in them
 abbrev pub AskFor : List Text → Mode → Type 0
 AskFor words m = IsModeOf (subcommand_of lnsd_line words) m × (fault_of lnsd_line words ≡ [])
 
--- they are wrong: clap finds a fault of them, or it finds none, and the NetID or a number is none
+-- they are wrong: clap finds a fault in them, or it finds none, and the NetID or a number is
+-- invalid
 abbrev pub AreWrong : List Text → Type 0
 AreWrong words =
     ((kind : ErrorKind) × IsAmong kind (fault_of lnsd_line words) × ¬ IsShown kind)

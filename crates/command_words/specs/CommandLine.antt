@@ -6,7 +6,7 @@ use Rattle.clap.specs.declared.builder.command.Command.TheViews.{out-Command as 
 use Rattle.clap.specs.declared.builder.action.ArgAction.TheVariants.{Set}
 use Rattle.clap.specs.declared.builder.value_parser.ValueParser.TheVariants.{Signed}
 
--- a word that has to be there
+-- a word that is required
 abbrev pub word : Text → Rule
 word id = record (new_rule id) { value_names = 1; required = true; action = Some Set }
 
@@ -22,7 +22,7 @@ range_option id least most = record (option id) { parser = Some (Signed least mo
 abbrev pub count_option : Text → ℤ → Rule
 count_option id most = range_option id (pos 1) most
 
--- an option that may be left out, and has this value then
+-- an option that may be left out, and has this value by default
 abbrev pub or_else : Rule → Text → Rule
 or_else option value = record option { required = false; defaults = value ∷ [] }
 

@@ -1,4 +1,4 @@
-//! The words of `lnsd`: what they ask for, and what a user is told where they ask for nothing.
+//! The words of `lnsd`: what they ask for, and the text that is printed if they ask for nothing.
 #![tactic(auto)]
 
 mod line;

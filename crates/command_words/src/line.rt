@@ -12,6 +12,12 @@ use clap::builder::ValueParser;
 use clap::{Arg, ArgAction, Command, value_parser};
 use std::alloc::{AllocError, Global};
 
+// What `lnsd --version` prints after the name. The twelve digits and `none` are placeholders:
+// bin/package fills them in, in the finished program that it packs, with the commit and with what was
+// proved. It can't be done in this source, since a commit can't name itself, and since a changed
+// source would have to be proved again. The text must be in the program exactly once.
+const VERSION: &str = "0.1.0, commit 000000000000, proof: none";
+
 const EXAMPLES: &str = "\
 Examples:
   lnsd format store --netid 00002A --slots 64
@@ -84,14 +90,14 @@ fn without_commands<'a>(alloc: Global) -> Result<Command<'a>, AllocError>
     let lnsd = Command::new(alloc, "lnsd")
         .bin_name("lnsd")?
         .about("A LoRaWAN network server whose counters survive every crash")
-        .version("0.1.0")
+        .version(VERSION)
         .after_help(EXAMPLES)
         .no_binary_name(true)
         .subcommand_required(true);
     Ok(lnsd)
 }
 
-// The same with one command more behind the others, if there was memory for both.
+// The same with one command more after the others, if there was memory for both.
 fn with_command<'a>(
     lnsd: Result<Command<'a>, AllocError>,
     command: Result<Command<'a>, AllocError>,
@@ -102,7 +108,7 @@ fn with_command<'a>(
     lnsd?.subcommand(command?)
 }
 
-// The same with one word or option more behind the others, if there was memory for it.
+// The same with one word or option more after the others, if there was memory for it.
 fn with_arg<'a>(
     command: Result<Command<'a>, AllocError>,
     arg: Arg<'a>,
@@ -114,7 +120,7 @@ fn with_arg<'a>(
     command?.arg(arg)
 }
 
-// A command of this name, whose first word is the file that it is about.
+// A command of this name, whose first word is its file.
 fn file_command<'a>(
     alloc: Global,
     name: &'a str,
@@ -141,7 +147,7 @@ pub(crate) fn format<'a>(alloc: Global) -> Result<Command<'a>, AllocError>
         alloc,
         "file",
         "FILE",
-        "The file to make; there may be none of this name yet",
+        "The file to make; it must not exist yet",
     );
     let net_id = option(
         alloc,
@@ -153,7 +159,7 @@ pub(crate) fn format<'a>(alloc: Global) -> Result<Command<'a>, AllocError>
         alloc,
         "slots",
         "N",
-        "How many devices the store has room for, for good: from 1 to 4096",
+        "The number of slots for devices, which can't be changed later: from 1 to 4096",
         1,
         4096,
     );
@@ -176,7 +182,7 @@ fn serve<'a>(alloc: Global) -> Result<Command<'a>, AllocError>
         alloc,
         "links",
         "N",
-        "How many links there are, all of which have to connect: from 1 to 80",
+        "The number of links, all of which have to connect: from 1 to 80",
         1,
         80,
     );
@@ -187,12 +193,12 @@ fn serve<'a>(alloc: Global) -> Result<Command<'a>, AllocError>
 fn run_command<'a>(alloc: Global) -> Result<Command<'a>, AllocError>
     ensures { IsCommand run_line result }
 {
-    let about = "Serves gateways and applications, which come and go, until `lnsd stop`";
+    let about = "Serves gateways and applications that come and go, until `lnsd stop`";
     let links = number_option(
         alloc,
         "links",
         "N",
-        "How many links there may be at a time: from 1 to 96",
+        "The largest number of links at a time: from 1 to 96",
         1,
         96,
     );
@@ -203,7 +209,7 @@ fn run_command<'a>(alloc: Global) -> Result<Command<'a>, AllocError>
 fn stop<'a>(alloc: Global) -> Result<Command<'a>, AllocError>
     ensures { IsCommand stop_line result }
 {
-    let about = "Ends the server that runs on a store, once what it has decided is sent";
+    let about = "Ends the server that runs on a store, after it has sent what is decided";
     file_command(alloc, "stop", about, STOP_EXAMPLE, store_file(alloc))
 }
 
@@ -211,28 +217,26 @@ fn devices<'a>(alloc: Global) -> Result<Command<'a>, AllocError>
     ensures { IsCommand devices_line result }
 {
     let about =
-        "Prints the devices of the server that runs on a store, and how each was heard last";
+        "Prints the devices of the server that runs on a store, and how each was last heard";
     file_command(alloc, "devices", about, DEVICES_EXAMPLE, store_file(alloc))
 }
 
 fn watch<'a>(alloc: Global) -> Result<Command<'a>, AllocError>
     ensures { IsCommand watch_line result }
 {
-    let about =
-        "Prints what happens at the server that runs on a store, a line each, until it ends";
+    let about = "Prints the events of the server that runs on a store, a line each, until it ends";
     file_command(alloc, "watch", about, WATCH_EXAMPLE, store_file(alloc))
 }
 
 fn status<'a>(alloc: Global) -> Result<Command<'a>, AllocError>
     ensures { IsCommand status_line result }
 {
-    let about =
-        "Prints how it goes with the server that runs on a store, a name and a value a line";
+    let about = "Prints the status of the server that runs on a store, a name and a value a line";
     let wait = number_option(
         alloc,
         "wait",
         "S",
-        "How long to wait until the server runs, in seconds: from 0 to 3600",
+        "How many seconds to wait for the server: from 0 to 3600",
         0,
         3600,
     );
@@ -243,18 +247,18 @@ fn status<'a>(alloc: Global) -> Result<Command<'a>, AllocError>
 fn restore<'a>(alloc: Global) -> Result<Command<'a>, AllocError>
     ensures { IsCommand restore_line result }
 {
-    let about = "Restores an older copy of a lost store in a new file";
+    let about = "Restores an older copy of a lost store to a new file";
     let copy = word(
         alloc,
         "file",
         "OLD",
-        "The file of the copy, which stays as it is",
+        "The file of the copy, which isn't changed",
     );
     let new = word(
         alloc,
         "new",
         "NEW",
-        "The file of the new store, which isn't there yet",
+        "The file of the new store, which must not exist yet",
     );
     let restore = file_command(alloc, "restore", about, RESTORE_EXAMPLE, copy);
     let restore = with_arg(with_arg(restore, new), or_else(grants(alloc), "1024"));
@@ -304,11 +308,11 @@ fn listen<'a>(alloc: Global) -> Arg<'a>
         alloc,
         "listen",
         "ADDR",
-        "Where links connect to: an IP address or a host's name, a colon and a TCP port",
+        "The address that links connect to: an IP address or a host name, a colon and a TCP port",
     )
 }
 
-// An option that may be left out, and has this value then.
+// An option that may be left out, and has this value by default.
 fn or_else<'a>(option: Arg<'a>, value: &'a str) -> Arg<'a>
     ensures rule { rule_of result ≡ or_else (rule_of option.entry) value.entry.now }
     ensures local { result.global ≡ option.entry.global }
@@ -324,7 +328,7 @@ fn left_out<'a>(option: Arg<'a>) -> Arg<'a>
     option.required(false)
 }
 
-// A word that has to be there.
+// A word that is required.
 fn word<'a>(alloc: Global, id: &'a str, value: &'a str, help: &'a str) -> Arg<'a>
     ensures rule { rule_of result ≡ word id.entry.now }
     ensures local { result.global ≡ false }
@@ -336,7 +340,7 @@ fn word<'a>(alloc: Global, id: &'a str, value: &'a str, help: &'a str) -> Arg<'a
         .help(help)
 }
 
-// An option that has to be there, with its value.
+// An option that is required, with its value.
 fn option<'a>(alloc: Global, name: &'a str, value: &'a str, help: &'a str) -> Arg<'a>
     ensures rule { rule_of result ≡ option name.entry.now }
     ensures local { result.global ≡ false }

@@ -1,10 +1,10 @@
 // What words ask for.
 use lw_types::{NetId, Ranged};
 
-/// What `lnsd` is asked for.
+/// What the words of `lnsd` ask for.
 #[derive(Clone, Copy)]
 pub enum Mode<'a> {
-    /// To make the store of a network, with room for so many devices, in a new file.
+    /// To make the store of a network, with this number of slots, in a new file.
     Format {
         file: &'a str,
         net_id: NetId,
@@ -14,15 +14,15 @@ pub enum Mode<'a> {
     List {
         file: &'a str,
     },
-    /// To serve so many links, which connect to an address, from the store in a file. Whether there
-    /// is such an address isn't known from the words.
+    /// To serve this number of links, which connect to an address, from the store in a file. The
+    /// words don't show whether such an address exists.
     Serve {
         file: &'a str,
         listen: &'a str,
         links: Ranged<1, 80>,
     },
-    /// To serve links that come and go, so many at a time, from the store in a file, until it is
-    /// stopped.
+    /// To serve links that come and go, at most this number at a time, from the store in a file,
+    /// until the server is stopped.
     Run {
         file: &'a str,
         listen: &'a str,
@@ -36,28 +36,28 @@ pub enum Mode<'a> {
     Devices {
         file: &'a str,
     },
-    /// To print what happens at the server that runs on the store in a file, until it ends.
+    /// To print the events of the server that runs on the store in a file, until it ends.
     Watch {
         file: &'a str,
     },
-    /// To restore the older copy in a file in a new file. The JoinNonces of each device go on
-    /// `grants` above the highest one that is known, and the file `above`, if there is one, has
-    /// JoinNonces that count as known.
+    /// To restore the older copy in a file to a new file. The JoinNonces of each device continue
+    /// `grants` above the highest known one. The file `above`, if given, has JoinNonces that count
+    /// as known.
     Restore {
         file: &'a str,
         new: &'a str,
         grants: Ranged<1, 65_536>,
         above: Option<&'a str>,
     },
-    /// To print how it goes with the server that runs on the store in a file, which may still begin
-    /// within so many seconds.
+    /// To print the status of the server that runs on the store in a file, or that begins within
+    /// this number of seconds.
     Status {
         file: &'a str,
         wait: Ranged<0, 3600>,
     },
 }
 
-/// Why words ask for nothing that is to be done.
+/// Why words ask for no action.
 #[derive(Drop)]
 pub enum Usage {
     /// They are wrong: the text for standard error.

@@ -1,4 +1,4 @@
-// Words that are read.
+// Reading of words.
 ghost use Rattle.std.specs.Prelude.{◌≡◌, ◌<◌, ◌^◌, ℕ, [], IfErr, IfOk, IfSome, None, map};
 ghost use Rattle.clap.specs.Words.{fault_of, found_of, kind_of, rows_of, subcommand_of, Text};
 ghost use Rattle.clap.specs.Words.{subcommand_rows_of};
@@ -13,8 +13,8 @@ use clap::{ArgMatches, Error};
 use lw_types::{FromText, NetId, Ranged};
 use std::alloc::{AllocError, Global};
 
-/// What these words, which come without the program's name, ask for. `Words` has clap's text where
-/// they are wrong, `Help` where they ask for help or for the version.
+/// What these words, without the program's name, ask for. `Words` has clap's text if they are
+/// wrong, `Help` if they ask for help or for the version.
 pub fn words<'a>(alloc: Global, words: &'a [&'a str]) -> Result<Mode<'a>, Usage>
     ensures mode { IfOk result (AskFor (map (λ w. w.now) words.entry.now)) }
     ensures usage { IfErr result (IsUsageOf (map (λ w. w.now) words.entry.now)) }
@@ -32,7 +32,7 @@ pub fn words<'a>(alloc: Global, words: &'a [&'a str]) -> Result<Mode<'a>, Usage>
     }
 }
 
-// What is told where no matches were found.
+// The text that is printed if no matches were found.
 fn usage_of(alloc: Global, error: &Error) -> Usage
     ensures { IsToldOf (kind_of error.now) result }
 {
@@ -46,7 +46,7 @@ fn usage_of(alloc: Global, error: &Error) -> Usage
     }
 }
 
-// What is told of a NetID that is none, the one value that clap doesn't read itself.
+// The text that is printed for an invalid NetID, the only value that clap doesn't read itself.
 fn wrong_net_id(alloc: Global) -> Usage
     ensures { IsToldOf ErrorKind.ValueValidation result }
 {
@@ -122,7 +122,7 @@ fn mode_of<'a>(matches: &ArgMatches<'a>) -> Option<Mode<'a>>
     }
 }
 
-// The address that links connect to, and how many there may be.
+// The address that links connect to, and the number of links.
 fn link_options<'a>(matches: &ArgMatches<'a>) -> Option<(&'a str, u64)>
     ensures some { IfSome result
         (λ r. HasLinkOptions (rows_of (found_of matches.now)) r.0.now r.1) }

@@ -9,13 +9,13 @@ use Rattle.counters.specs.declared.Rebuilt.TheVariants.{New, Repeat, Gap}
 abbrev pub least_from : ℕ → ℕ → ℕ
 least_from first low = first + (low + 2 ^ 16 - first % 2 ^ 16) % 2 ^ 16
 
--- it is new where it is a counter and near enough; the standard sets no such limit, and 16,384 is
+-- a counter is new if it is below 2^32 and near enough. The standard sets no such limit; 16,384 is
 -- this project's
 abbrev pub if_near : ℕ → ℕ → Rebuilt
 if_near first n = if nat_lt n (first + MAX_GAP) && nat_lt n (2 ^ 32) then New n else Gap
 
--- the whole counter of a frame with this FCnt, its low bits, after the last one that was accepted,
--- if one was
+-- the whole counter of a frame with this FCnt (its low bits), after the last counter that was
+-- accepted, if any
 abbrev pub rebuilt_counter : Option ℕ → ℕ → Rebuilt
 rebuilt_counter None low = if_near 0 (least_from 0 low)
 rebuilt_counter (Some last) low =

@@ -8,23 +8,23 @@ ghost use Rattle.counters.specs.Rebuilt.{if_near, least_from, rebuilt_counter};
 
 pub mod laws;
 
-/// What the low bits of a counter stand for.
+/// What the low bits of a counter mean.
 #[derive(Clone, Copy, PartialEq, Eq)]
 pub enum Rebuilt {
     /// A new frame with this counter.
     New(u32),
     /// The last frame again.
     Repeat,
-    /// No counter that is at most [`MAX_GAP`] above the last one.
+    /// No counter up to [`MAX_GAP`] above the last one has these low bits.
     Gap,
 }
 
-/// How far above the last counter a new one may be.
+/// How far a new counter may be above the last one.
 pub const MAX_GAP: u64 = 16_384;
 
 /// The whole counter of a frame with this FCnt, after the last one that was accepted: the least
-/// counter above it with these low bits, where that is at most [`MAX_GAP`] above it. Before the
-/// first frame the last one counts as -1. Takes no memory.
+/// counter above it with these low bits, if it is at most [`MAX_GAP`] above. Before the first frame
+/// the last counter is taken as -1. Takes no memory.
 pub fn rebuild(last: Option<u32>, low: u16) -> Rebuilt
     ensures repeat { (result ≡ Rebuilt.Repeat) ↔ IsRepeat last low }
     ensures new { (n : ℕ) → (result ≡ Rebuilt.New n)
@@ -47,7 +47,7 @@ fn low_bits(counter: u32) -> u16
     (counter % (1 << 16)) as u16
 }
 
-// The least counter from `first` on with these low bits, where it is below `first + MAX_GAP`.
+// The least counter from `first` on with these low bits, if it is below `first + MAX_GAP`.
 fn from(first: u64, low: u16) -> Rebuilt
     requires { first ≤ 2 ^ 32 }
     ensures first { FirstFrom first low result }

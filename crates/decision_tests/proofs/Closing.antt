@@ -17,7 +17,7 @@ rest_shorter now ws rest heard o = let e = ap length o.oldest in omega arith
 pub none_left : (now : ℕ) (ws after : List Window) → after ≡ ws → NoneDue now ws → All (λ w. w.opened ≤ now) ws → IsCurrent now after
 none_left now ws after same none all = All-same (λ w. (w.opened ≤ now) × (is_due now w ≡ false)) after ws same (λ k d lt. (all k d lt, none k d lt))
 
--- where a copy that is taken makes no window due, each opened at this moment or before
+-- if a copy that is taken makes no window due, each window opened at this moment or before
 pub taken_opened : (now : ℕ) (ws after : List Window) (copy : FrameCopy) → ((xs ys : List Window) (n : ℕ) (c : FrameCopy) → IsCurrent n xs → windows_with xs n c ≡ Ok ys → IsCurrent n ys)
     → IsCurrent now ws → Answers {B = Unit {0}} (windows_with ws now copy) (λ xs _. after ≡ xs) (Ok (tt {0})) → All (λ w. w.opened ≤ now) after
 taken_opened now ws after copy law current = by (windows_with ws now copy) refl

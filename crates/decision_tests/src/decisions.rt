@@ -1,6 +1,6 @@
-// Tests of what tables decide: uplinks and downlinks, joins, and queues. What leaves is compared as
-// it leaves, as lines for the application and frames for the gateway, and the record is compared
-// whole.
+// Tests of what tables decide: uplinks and downlinks, joins, and queues. Effects are compared in
+// the form in which they leave, as lines for the application and frames for the gateway, and the
+// record is compared whole.
 mod channels;
 mod counts;
 mod fcnt;
@@ -22,8 +22,8 @@ use crate::network::{Asked, Comes, FRESH, Items, Refused, Row, State, told};
 use lw_types::Refusal;
 use std::alloc::Global;
 
-// The tables of rows, each with its file and name. (A test that names them all has each of their
-// rows in its proof; one that calls this has none.)
+// The tables of rows, each with its file and name. (If a test named them all, its proof would have
+// every row in it; a test that calls this function has none.)
 fn rows_of(table: u8) -> (&'static str, &'static [Row]) {
     match table {
         0 => ("payloads.rt MAC_COMMANDS", payloads::MAC_COMMANDS),
@@ -43,8 +43,8 @@ fn rows_of(table: u8) -> (&'static str, &'static [Row]) {
     }
 }
 
-// What is wrong in the tables, a line each: the table, the number of the row, what was wanted, and
-// what came.
+// What is wrong in the tables, one line each: the table, the number of the row, what was wanted,
+// and what came.
 fn wrong_rows(alloc: Global) -> Result<String, Refusal> {
     let mut wrong = String::new(alloc);
     for table in 0..14 {
@@ -97,7 +97,7 @@ fn a_command_is_refused_for_its_first_cause(rt: HostRuntime) {
     assert!(rt; wrong.is_empty(), "{wrong}");
 }
 
-// Whether the acknowledgement of an uplink at a data rate leaves for RX1 at another, where the
+// Whether the acknowledgement of an uplink at this data rate is sent for RX1 at the other, if the
 // device has this offset.
 fn lowers(alloc: Global, rx1_offset: u64, data_rate: u8, rx1: usize) -> Result<bool, Refusal> {
     let row = Row {
@@ -125,7 +125,7 @@ fn an_offset_lowers_rx1(rt: HostRuntime) {
     }
 }
 
-// Whether an item on the next port waits behind those on the ports from 1 on, so many.
+// Whether an item on the next port waits after those on the ports from 1 on, which are this number.
 fn waits_behind(alloc: Global, waiting: u8) -> Result<bool, Refusal> {
     let port = waiting.saturating_add(1);
     let row = Row {
@@ -150,8 +150,8 @@ fn sixteen_items_wait_in_order(rt: HostRuntime) {
     }
 }
 
-// What leaves where what comes on a channel at a data rate is answered in RX1: the frame for the
-// gateway, with this behind its frequency and data rate.
+// What is sent when a frame on a channel at a data rate is answered in RX1: the frame for the
+// gateway, with this text after its frequency and data rate.
 fn is_answered(
     alloc: Global,
     before: &State,

@@ -1,4 +1,4 @@
-//! What tests begin with. Frames and keys were made by Python's `cryptography`.
+//! The first values of the tests. Frames and keys were made by Python's `cryptography`.
 use devices::{
     Application, Channels, Command, Heard, Hearing, Hearings, Provisioning, Rx1Offset, RxDelay,
     Session,
@@ -21,7 +21,7 @@ pub const REQUEST_3: &str = "00080706050403020118171615141312110300E85E42DA";
 /// Its first uplink after it joined at slot 0 with DevNonce 0: one byte on port 1, unconfirmed.
 pub const FIRST_UPLINK: &str = "400100005400000001D030E934B6";
 
-/// What brings a device of this DevEUI.
+/// The provisioning of a device with this DevEUI.
 pub fn provisioning(dev_eui: u64) -> Option<Provisioning> {
     Some(Provisioning {
         application: Application::new(3)?,
@@ -33,12 +33,12 @@ pub fn provisioning(dev_eui: u64) -> Option<Provisioning> {
     })
 }
 
-/// The command that brings a device of this DevEUI.
+/// The command that provisions a device with this DevEUI.
 pub fn provision(dev_eui: u64) -> Option<Command> {
     Some(Command::Provision(provisioning(dev_eui)?))
 }
 
-/// What brings the device that joins. Its key is the example key of FIPS 197.
+/// The provisioning of the device that joins. Its key is the example key of FIPS 197.
 pub fn joining() -> Option<Provisioning> {
     let mut joining = provisioning(JOINER)?;
     joining.join_eui = Eui(0x0102_0304_0506_0708);
@@ -83,7 +83,7 @@ pub fn frame(alloc: Global, digits: &str) -> Result<PhyPayload, Refusal> {
     }
 }
 
-/// The command of the frame of these hexadecimal digits, of which gateways have these copies.
+/// The command of the frame with these hexadecimal digits, of which gateways have these copies.
 pub fn heard_by(alloc: Global, digits: &str, copies: &[Hearing]) -> Result<Command, Refusal> {
     let phy_payload = frame(alloc, digits)?;
     match Hearings::new(Vec::from_slice(alloc, copies)?) {

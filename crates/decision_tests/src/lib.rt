@@ -1,5 +1,5 @@
-//! Tests of the public calls of the windows, the table and the core, a file or a folder a crate.
-//! They stand above those crates, so that each of these is proved once.
+//! Tests of the public calls of the windows, the table and the core, one file or folder for each
+//! crate. They are in a crate above those crates, so that each of those is proved once.
 #![tactic(auto)]
 
 #[cfg(test)]

@@ -1,4 +1,5 @@
-//! A network with one device under test: its record before, what comes, and what has to come of it.
+//! A network with one device under test: its record before, what comes, and the result that is
+//! wanted.
 use crate::fixture::{JOINER, heard, heard_by, joining, provisioning, session};
 use crate::tables::{alone, filled};
 use devices::{
@@ -14,13 +15,13 @@ use std::alloc::Global;
 /// What a join grants: the JoinNonce and the keys of the session, NwkSKey first.
 pub(crate) type Grant = (u32, (u128, u128));
 
-/// An item that waits: its tag, its port, whether it is confirmed, and how many bytes 6.
+/// An item that waits: its tag, its port, whether it is confirmed, and how many bytes 06 it has.
 pub(crate) type Waiting = (u32, u64, bool, usize);
 
 /// The items that wait for a device.
 #[derive(Clone, Copy)]
 pub(crate) enum Items {
-    /// So many confirmed ones of one byte under tag 9, on the ports from 1 on.
+    /// This number of confirmed items of one byte with tag 9, on the ports from 1 on.
     Ports(u64),
     One(Waiting),
     Two(Waiting, Waiting),
@@ -34,7 +35,7 @@ pub(crate) struct State {
     pub slot: u16,
     pub rx1_offset: u64,
     pub last_dev_nonce: Option<u16>,
-    /// The last JoinNonce granted; 0 where none was.
+    /// The last JoinNonce granted; 0 if there is none.
     pub join_nonce: u32,
     /// The current session, and its counters.
     pub in_use: Option<Grant>,
@@ -42,14 +43,14 @@ pub(crate) struct State {
     pub channels: Channels,
     pub last_up: u32,
     pub next_down: u64,
-    /// The pending session, which had no uplink yet.
+    /// The pending session, which hasn't had an uplink yet.
     pub waiting: Option<Grant>,
     /// Its channels.
     pub waiting_channels: Channels,
     pub awaited: Option<u32>,
     pub mac_queue: Option<&'static str>,
     pub items: Items,
-    /// How many uplinks were counted.
+    /// The number of uplinks counted.
     pub heard: u64,
 }
 
@@ -72,11 +73,11 @@ pub(crate) const FRESH: State = State {
     heard: 0,
 };
 
-/// How a gateway heard a frame: its number above B0, the data rate, SNR and RSSI. No two of B0 to
-/// B2 have one channel, and no two gateways one stamp.
+/// How a gateway heard a frame: its number above B0, the data rate, SNR and RSSI. B0 to B2 are on
+/// different channels, and all gateways have different stamps.
 pub(crate) type HeardBy = (u8, u8, i16, i16);
 
-/// An item that an application asks for, of so many bytes 6.
+/// An item that an application asks for, of this number of bytes 06.
 #[derive(Clone, Copy)]
 pub(crate) struct Asked {
     pub application: u64,
@@ -100,9 +101,9 @@ pub(crate) enum Comes {
     On(u32, u8, &'static str),
     /// A frame that B1 hears best, on the first of these channels, and B2 and B3 on the second.
     Best(u32, u32, &'static str),
-    /// A frame that so many gateways from B1 on hear at this data rate and with this SNR.
+    /// A frame that this number of gateways, from B1 on, hear at this data rate and with this SNR.
     Alike(u8, u8, i16, &'static str),
-    /// A frame that three gateways hear so.
+    /// A frame that three gateways hear like this.
     Three(HeardBy, HeardBy, HeardBy, &'static str),
     /// An item for a device.
     Item(Asked),
@@ -110,7 +111,7 @@ pub(crate) enum Comes {
     Mac(u64, u64, &'static str),
 }
 
-/// A record, what comes, what leaves then, and the record after it. What leaves is lines for the
+/// A record, what comes, what leaves then, and the record after it. What leaves is lines for
 /// application 3 and frames for gateways in hexadecimal digits, one below the other.
 #[derive(Clone, Copy)]
 pub(crate) struct Row {
@@ -120,11 +121,11 @@ pub(crate) struct Row {
     pub after: State,
 }
 
-/// A record, what comes, and as what it is refused.
+/// A record, what comes, and how it is refused.
 pub(crate) type Refused = (State, Comes, Refusal);
 
 impl Row {
-    /// What comes in the place of what is wanted, if all doesn't come so.
+    /// What comes instead, if not everything comes as wanted.
     pub fn fault(&self, alloc: Global) -> Result<Option<String>, Refusal> {
         let mut table = self.before.table(alloc)?;
         let told = match told(alloc, &mut table, &self.comes) {
@@ -141,7 +142,7 @@ impl Row {
     }
 }
 
-/// What leaves by a command, whose record is in the table then.
+/// What leaves because of a command, whose record is then in the table.
 pub(crate) fn told(alloc: Global, table: &mut Table, comes: &Comes) -> Result<String, Refusal> {
     let batch = alone(alloc, table, 8, comes.command(alloc)?)?;
     match batch.as_slice() {
@@ -150,7 +151,7 @@ pub(crate) fn told(alloc: Global, table: &mut Table, comes: &Comes) -> Result<St
     }
 }
 
-// What leaves by these effects on a device with this record.
+// What leaves because of these effects, for a device with this record.
 fn emitted(alloc: Global, effects: &[Effect], device: &Device) -> Result<String, Refusal> {
     let mut text = String::new(alloc);
     for effect in effects {
@@ -165,7 +166,7 @@ fn emitted(alloc: Global, effects: &[Effect], device: &Device) -> Result<String,
     Ok(text)
 }
 
-// Adds what leaves by an effect.
+// Adds what leaves because of an effect.
 fn emit(alloc: Global, effect: &Effect, text: &mut String) -> Result<(), Refusal> {
     match Emission::of(alloc, effect)? {
         Emission::Application { application, line } if application.get() == 3 => {
@@ -191,13 +192,13 @@ fn is_named(effect: &Effect, device: &Device) -> bool {
 }
 
 impl State {
-    /// Whether what comes is refused so.
+    /// Whether what comes gets this refusal.
     pub fn refuses(&self, alloc: Global, comes: &Comes, refusal: Refusal) -> Result<bool, Refusal> {
         let mut table = self.table(alloc)?;
         Ok(told(alloc, &mut table, comes).err() == Some(refusal))
     }
 
-    /// What leaves by what comes, or why it is refused.
+    /// What leaves because of what comes, or why it is refused.
     pub fn outcome(&self, alloc: Global, comes: &Comes) -> Result<String, Refusal> {
         let mut table = self.table(alloc)?;
         match told(alloc, &mut table, comes) {
@@ -308,7 +309,7 @@ fn item(alloc: Global, waiting: &Waiting) -> Result<Item, Refusal> {
     })
 }
 
-// What provisions a device.
+// The provisioning of a device.
 fn provisioning_of(dev_eui: u64) -> Option<Provisioning> {
     if dev_eui == JOINER {
         joining()
@@ -318,7 +319,7 @@ fn provisioning_of(dev_eui: u64) -> Option<Provisioning> {
 }
 
 impl Comes {
-    /// The command of it.
+    /// Its command.
     pub fn command(&self, alloc: Global) -> Result<Command, Refusal> {
         match self {
             Comes::Device(dev_eui) => provision(*dev_eui),
@@ -352,7 +353,7 @@ fn provision(dev_eui: u64) -> Result<Command, Refusal> {
     }
 }
 
-// A frame of which so many gateways from B1 on have copies.
+// A frame of which this number of gateways, from B1 on, have copies.
 fn alike(
     alloc: Global,
     copies: u8,

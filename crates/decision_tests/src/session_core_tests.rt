@@ -1,4 +1,4 @@
-// What a core answers to events, one after another.
+// A core's answers to events, one after another.
 mod commands;
 mod core_script;
 mod limits;
@@ -9,8 +9,8 @@ use lw_types::Refusal;
 use session_core::Moment;
 use std::alloc::Global;
 
-// The scripts, each with its file and name. (A test that names them all has each of their steps in
-// its proof; one that calls this has none.)
+// The scripts, each with its file and name. (If a test named them all, its proof would have every
+// step in it; a test that calls this function has none.)
 fn script(number: u8) -> (&'static str, &'static [Step]) {
     match number {
         0 => ("commands.rt TURNS", commands::TURNS),

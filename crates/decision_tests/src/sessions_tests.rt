@@ -9,7 +9,7 @@ use lw_types::{DevAddr, Eui, FromText, Refusal};
 use sessions::{Batch, PlacedBatch, Table};
 use std::alloc::Global;
 
-// What comes to a table of 2 slots without devices, and what leaves then or as what it is refused.
+// What comes to a table of 2 slots without devices, and what leaves then or how it is refused.
 const PROVISIONED: &[(Comes, Result<&str, Refusal>)] = &[
     (Comes::Device(50), Ok("provisioned 0000000000000032 0")),
     (Comes::Device(40), Ok("provisioned 0000000000000028 1")),
@@ -17,7 +17,7 @@ const PROVISIONED: &[(Comes, Result<&str, Refusal>)] = &[
     (Comes::Device(60), Err(Refusal::TableFull)),
 ];
 
-// Whether this comes of it.
+// Whether this is the result.
 fn comes_so(
     alloc: Global,
     table: &mut Table,
@@ -31,7 +31,7 @@ fn comes_so(
     }
 }
 
-// Whether the devices 50 and 40 take the slots, and the device 60 none.
+// Whether devices 50 and 40 take the slots, and device 60 gets none.
 fn take_slots(alloc: Global) -> Result<bool, Refusal> {
     let mut table = new_table(alloc, 2)?;
     for (comes, wanted) in PROVISIONED {
@@ -47,7 +47,7 @@ fn a_provisioning_takes_the_next_slot_while_there_is_one(rt: HostRuntime) {
     assert!(rt; take_slots(rt.alloc()) == Ok(true));
 }
 
-// Numbers of decisions, and those of the questions that would lead to them.
+// Numbers of decisions, and the numbers of the questions that would lead to them.
 const QUESTIONS: &[(u64, u32)] = &[
     (1, 1),
     (0xFFFF_FFFF, 0xFFFF_FFFF),
@@ -55,8 +55,8 @@ const QUESTIONS: &[(u64, u32)] = &[
     (0x1_0000_0007, 7),
 ];
 
-// Whether the join server is asked under this number for the device at slot 3 that was granted 8190
-// before and has RX1DROffset 2.
+// Whether the join server is asked with this number about the device at slot 3, which was granted
+// 8190 before and has RX1DROffset 2.
 fn is_asked(alloc: Global, seq: u64, transaction: u32) -> Result<bool, Refusal> {
     let asking = State {
         slot: 3,
@@ -89,7 +89,8 @@ fn a_question_has_the_low_32_bits_of_its_number(rt: HostRuntime) {
     }
 }
 
-// Whether a table admits a decision under its own number alone, and no more once the slot is taken.
+// Whether a table admits a decision only with its own number, and no longer after the slot is
+// taken.
 fn admits_once(alloc: Global, table: &mut Table) -> Result<bool, Refusal> {
     let first = table.decide(alloc, 1, Comes::Device(50).command(alloc)?)?;
     let admitted = table.admits(0, &first) && !table.admits(1, &first);
@@ -118,7 +119,7 @@ fn a_table_admits_what_was_made_of_it(rt: HostRuntime) {
     assert!(rt; admits_its_own(rt.alloc()) == Ok(true));
 }
 
-// An empty table with the records of a batch whose last number is this, and how many effects are
+// An empty table with the records of a batch whose last number is this, and the number of effects
 // left of its decisions.
 fn restored(alloc: Global, batch: Batch, end: u64) -> Result<(Table, usize), Refusal> {
     let mut table = new_table(alloc, 64)?;
@@ -156,7 +157,7 @@ fn a_batch_gives_its_records(rt: HostRuntime) {
     }
 }
 
-// Whether so many devices have a place in a table.
+// Whether this number of devices have a place in a table.
 fn holds(alloc: Global, count: u16) -> Result<bool, Refusal>
     requires { 0 < count }
 {
@@ -172,13 +173,13 @@ fn a_table_holds_4096_devices(rt: HostRuntime) {
     assert!(rt; holds(rt.alloc(), 4096) == Ok(true));
 }
 
-// The record of a device of this DevEUI is put at a slot.
+// Puts the record of a device with this DevEUI at a slot.
 fn put(alloc: Global, table: &mut Table, slot: u16, dev_eui: u64) -> Result<(), Refusal> {
     let device = State { dev_eui, ..FRESH }.device(alloc)?;
     table.put(slot, device)
 }
 
-// Whether a slot takes its own device's record again, and then one of a new name.
+// Whether a slot takes its own device's record again, and then one with a new name.
 fn is_renamed(alloc: Global, table: &mut Table, slot: u16) -> Result<bool, Refusal> {
     let own = u64::from(slot);
     put(alloc, table, slot, own)?;

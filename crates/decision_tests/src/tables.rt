@@ -1,11 +1,11 @@
-// Tables that the tests here begin with.
+// The tables at the beginning of these tests.
 use crate::fixture::provision;
 use devices::Command;
 use lw_types::{NetId, Refusal};
 use sessions::{Batch, Slots, Table};
 use std::alloc::Global;
 
-/// A table with so many slots and no device.
+/// A table with this number of slots and no device.
 pub(crate) fn new_table(alloc: Global, slots: u64) -> Result<Table, Refusal> {
     match (NetId::new(0x2A), Slots::new(slots)) {
         (Some(net_id), Some(slots)) => Table::new(alloc, net_id, slots),
@@ -13,8 +13,9 @@ pub(crate) fn new_table(alloc: Global, slots: u64) -> Result<Table, Refusal> {
     }
 }
 
-// Decides a command under the number after `seq`, puts its record on the table, and adds the
-// decision to a batch. (Whoever has a decision of its own pays for its drop in its proof.)
+// Decides a command with the number after `seq`, puts its record into the table, and adds the
+// decision to a batch. (A function that owns a decision has the proof of its drop in its own
+// proof.)
 fn carry_out(
     alloc: Global,
     table: &mut Table,
@@ -34,7 +35,7 @@ fn carry_out(
     Ok(())
 }
 
-/// A batch of the decision of a command alone, which is carried out so.
+/// A batch with the decision of one command, which is carried out in this way.
 pub(crate) fn alone(
     alloc: Global,
     table: &mut Table,
@@ -46,7 +47,7 @@ pub(crate) fn alone(
     Ok(batch)
 }
 
-// A device is provisioned.
+// Provisions a device.
 fn bring(
     alloc: Global,
     table: &mut Table,
@@ -60,7 +61,7 @@ fn bring(
     }
 }
 
-// Devices are put into a table without devices, of the DevEUIs from 0 on.
+// Puts devices with DevEUIs from 0 on into a table without devices.
 fn fill(alloc: Global, table: &mut Table, devices: u64) -> Result<(), Refusal> {
     for dev_eui in 0..devices {
         bring(alloc, table, dev_eui, dev_eui, &mut Batch::new(alloc)?)?;
@@ -68,7 +69,7 @@ fn fill(alloc: Global, table: &mut Table, devices: u64) -> Result<(), Refusal> {
     Ok(())
 }
 
-/// A table with devices at its first slots, of the DevEUIs from 0 on.
+/// A table with devices at its first slots, with DevEUIs from 0 on.
 pub(crate) fn filled(alloc: Global, slots: u64, devices: u64) -> Result<Table, Refusal> {
     let mut table = new_table(alloc, slots)?;
     match fill(alloc, &mut table, devices) {
@@ -77,8 +78,8 @@ pub(crate) fn filled(alloc: Global, slots: u64, devices: u64) -> Result<Table, R
     }
 }
 
-/// Provisionings of so many devices on a table whose last decision has the number 0, and which has
-/// their records then. The DevEUIs are counted down from 2000.
+/// The provisionings of this number of devices, as a batch. They are put into a table whose last
+/// decision has the number 0. The DevEUIs are counted down from 2000.
 pub(crate) fn batch(alloc: Global, table: &mut Table, count: u64) -> Result<Batch, Refusal> {
     let mut batch = Batch::new(alloc)?;
     for seq in 0..count {

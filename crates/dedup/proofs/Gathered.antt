@@ -1,4 +1,4 @@
--- The two maps in which the gatherings stand, as the list of the windows.
+-- The two maps that store the gatherings, as the list of the windows.
 use Rattle.std.proofs.Common.{◌≡◌, ℕ, zero, suc, ◌+◌, ◌-◌, ◌<◌, ◌↔◌, Bool, true, false, cond, not, ◌||◌, List, [], ◌∷◌, ◌++◌, length, map, reverse, drop, refl, sym, ap, subst, ◌∙◌, arith, zero-add, append_assoc, Bor, Ok, Err, Some, None, Option, Result, is_some, slice_get, slice_range, position}
 use Rattle.std.specs.Prelude.{bytes_eq, OnErr, IsSome, option_map, option_to_list}
 use Rattle.std.specs.List.{list_any, position_or_len, AllByRecursion, IsDistinct}
@@ -31,7 +31,7 @@ Entries = List Entry
 abbrev pub with_copies : Gathering → List Hearing → Gathering
 with_copies g hearings = record { opened = g.opened; hearings = hearings }
 
--- a map turned round has its first window last
+-- a reversed map has its first window last
 turned : (e : Entry) (es : Entries) → map window_of (reverse (e ∷ es)) ≡ map window_of (reverse es) ++ window_of e ∷ []
 turned e es = ap (map window_of) (reverse-append (e ∷ []) es) ∙ map-append window_of (reverse es) (e ∷ [])
 
@@ -75,7 +75,7 @@ second_false : (a b : Bool) → (a || b) ≡ false → b ≡ false
 second_false true b e = absurd (cc)
 second_false false b e = e
 
--- what no window has, the map of the newer has not
+-- bytes that no window has aren't in the map of the newer windows
 pub absent : (older newer : Entries) (bytes : List ℕ) → list_any (is_of bytes) (windows_of older newer) ≡ false → lookup (bytes_eq bytes) newer ≡ None
 absent older newer bytes none =
     let both = sym (list_any-append (is_of bytes) (map window_of (reverse older)) (map window_of newer)) ∙ none in
@@ -95,12 +95,12 @@ first_found (e ∷ es) (suc i) bytes p lt = by (bytes_eq bytes e.0) p (λ q. fir
     by true p rest = absurd (omega arith)
     by false p rest = (refl, rest (omega arith))
 
--- where the keys are distinct, none behind the first has the bytes
+-- if the keys are distinct, none after the first has the bytes
 none_behind : (bytes : List ℕ) (es : Entries) → AllByRecursion (λ y. bytes_eq bytes y ≡ false) (keys_of es) → list_any (is_of bytes) (map window_of es) ≡ false
 none_behind bytes [] apart = refl
 none_behind bytes (e ∷ es) apart = rw apart.0 (none_behind bytes es apart.1)
 
--- so it is the first of the map turned round too
+-- so it is also the first in the reversed map
 first_turned : (es : Entries) (i j : ℕ) (bytes : List ℕ) → IsFirst bytes (map window_of es) i → IsDistinct bytes_eq (keys_of es) → suc (i + j) ≡ length es → IsFirst bytes (map window_of (reverse es)) j
 first_turned [] i j bytes first distinct n = absurd first
 first_turned (e ∷ es) zero j bytes first distinct n =
@@ -227,14 +227,14 @@ pub same_after : (after : Entries → List Window) (es : Entries) (i : ℕ) (g :
 same_after after es i g now (Ok x) at' same = same
 same_after after es i g now (Err e) at' same = ap (λ hs. after (set_value_at es i (with_copies g hs))) same ∙ ap after (unwritten es i g at')
 
--- one more
+-- one more window
 
 pub pushed : (older newer : Entries) (e : Entry) → windows_of older (newer ++ e ∷ []) ≡ windows_of older newer ++ window_of e ∷ []
 pushed older newer e =
     let front = map window_of (reverse older) in
     ap (λ ws. front ++ ws) (map-append window_of newer (e ∷ [])) ∙ sym (append_assoc front (map window_of newer) (window_of e ∷ []))
 
--- the oldest
+-- the oldest window
 
 oldest : (rest newer : Entries) (e : Entry) → windows_of (rest ++ e ∷ []) newer ≡ window_of e ∷ windows_of rest newer
 oldest rest newer e = ap (λ es. map window_of es ++ map window_of newer) (reverse-append rest (e ∷ []))
@@ -260,7 +260,7 @@ first_newer older newer o none is = seen o ∙ ap (option_map window_of) is ∙ 
     of [] = refl
     of (e ∷ es) = refl
 
--- the newer, turned round, are the older
+-- the newer windows, reversed, become the older ones
 pub turned_round : (newer : Entries) → windows_of (reverse newer) [] ≡ windows_of [] newer
 turned_round newer = append-nil (map window_of (reverse (reverse newer))) ∙ ap (map window_of) (reverse-reverse newer)
 
@@ -268,7 +268,7 @@ pub record Popped (older left newer : Entries) (o : Option Entry) : Type 0 where
   pub first : option_map window_of o ≡ slice_get (windows_of older newer) 0
   pub rest : windows_of left newer ≡ drop 1 (windows_of older newer)
 
--- where the older map is empty only if the newer one is, its last is the oldest of all
+-- if the older map is empty only when the newer one is, its last window is the oldest of all
 pub popped : (older left newer : Entries) (o : Option Entry) → older ≡ left ++ option_to_list o → (IsSome o ↔ (0 < length older)) → (length older ≡ 0 → newer ≡ []) → Popped older left newer o
 popped older left newer (Some e) split found none =
     let is : windows_of older newer ≡ window_of e ∷ windows_of left newer = ap (λ es. windows_of es newer) split ∙ oldest left newer e in

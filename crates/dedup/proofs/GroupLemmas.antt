@@ -13,7 +13,8 @@ use Rattle.dedup.specs.Windows.{Window, window_of_group, hearing_of, with_hearin
 abbrev pub takes : Window → Arrival → Bool
 takes w a = nat_lt a.at (w.opened + WAIT) && bytes_eq a.copy.phy_payload w.phy_payload
 
--- the first window that takes the arrival has its copy too; where none takes it, it opens one at the end
+-- the first window that takes the arrival also has its copy; if no window takes it, it opens one at
+-- the end
 abbrev pub with_arrival : List Window → Arrival → List Window
 with_arrival [] a = window_of_group (a ∷ []) ∷ []
 with_arrival (w ∷ ws) a = cond (takes w a) (with_hearings w (w.hearings ++ hearing_of a.copy ∷ []) ∷ ws) (w ∷ with_arrival ws a)
@@ -24,7 +25,7 @@ others first rest = filter (λ a. not (is_in_group first a)) rest
 fewer : (first : Arrival) (rest : List Arrival) → length (others first rest) ≤ length rest
 fewer first rest = omega (arith, length-filter (λ a. not (is_in_group first a)) rest, count_by-le-length (λ a. not (is_in_group first a)) rest)
 
--- more groups than copies are no more groups
+-- asking for more groups than there are copies gives no more groups
 enough : (n : ℕ) (arrivals : List Arrival) → length arrivals ≤ n → first_groups (suc n) arrivals ≡ first_groups n arrivals
 enough zero [] le = refl
 enough zero (first ∷ rest) le = absurd (omega arith)
@@ -36,7 +37,7 @@ enough (suc n) (first ∷ rest) le =
 abbrev OneMore : ℕ → List Arrival → Arrival → Type 0
 OneMore n arrivals a = map window_of_group (first_groups (suc n) (arrivals ++ a ∷ [])) ≡ with_arrival (map window_of_group (first_groups n arrivals)) a
 
--- the first group, and the groups behind it, as the last copy joins it or not
+-- the first group and the groups after it, depending on whether the last copy joins the first
 by_joining : (first : Arrival) (rest : List Arrival) (a : Arrival) (n : ℕ) → length rest ≤ n → OneMore n (others first rest) a → (b : Bool) → is_in_group first a ≡ b
     → window_of_group (first ∷ (filter (is_in_group first) rest ++ cond b (a ∷ []) [])) ∷ map window_of_group (first_groups (suc n) (others first rest ++ cond (not b) (a ∷ []) []))
     ≡ cond b (with_hearings (window_of_group (first ∷ filter (is_in_group first) rest)) ((window_of_group (first ∷ filter (is_in_group first) rest)).hearings ++ hearing_of a.copy ∷ []) ∷ map window_of_group (first_groups n (others first rest))) (window_of_group (first ∷ filter (is_in_group first) rest) ∷ with_arrival (map window_of_group (first_groups n (others first rest))) a)

@@ -1,4 +1,4 @@
--- What the windows keep.
+-- What the windows preserve.
 use Rattle.std.proofs.Common.{◌≡◌, ℕ, zero, suc, ◌+◌, ◌^◌, ◌≤◌, ◌<◌, SomeIff, nat_lt, Bool, true, false, cond, List, [], ◌∷◌, ◌++◌, length, map, drop, get_or, refl, sym, ap, subst, ◌∙◌, arith, Ok, Err, Some, None, Option, slice_get, position}
 use Rattle.std.specs.Prelude.{nat_le, All, AllPairs, Result, OnErr}
 use Rattle.std.specs.List.{list_any}
@@ -36,7 +36,7 @@ openings (w ∷ ws) after (suc i) h lt e =
     let m = from (λ rest. w ∷ rest) (joined_at ws i h) after e in
     ap (map opened) m.is ∙ ap (λ ns. w.opened ∷ ns) (openings ws m.value i h (omega arith) m.was)
 
--- a copy more in a window leaves the order
+-- one more copy in a window leaves the order
 pub kept_joined : (ws after : List Window) (i : ℕ) (h : Hearing) (r : Result (Unit {0}) Refusal) → i < length ws → AreKept ws
     → Answers (joined_at ws i h) (λ xs _. after ≡ xs) r → OnErr r (after ≡ ws) → AreKept after
 kept_joined ws after i h (Err e) lt kept answers same = subst AreKept (sym same) kept
@@ -79,13 +79,13 @@ there_is_one [] i bytes first = absurd first
 there_is_one (w ∷ ws) zero bytes first = rw first refl
 there_is_one (w ∷ ws) (suc i) bytes first = rw first.0 (there_is_one ws i bytes first.1)
 
--- where a window has the bytes, the first of them takes the copy
+-- if a window has the bytes, the first such window takes the copy
 pub added_joins : (ws : List Window) (now : ℕ) (copy : FrameCopy) (i : ℕ) → position (is_of copy.phy_payload) ws ≡ Some i → windows_with ws now copy ≡ joined_at ws i (hearing_of copy)
 added_joins ws now copy i p =
     let first = first_from_position copy.phy_payload ws i p in
     rw (there_is_one ws i copy.phy_payload first) (joined_first ws i copy first)
 
--- where it has not, a window opens
+-- if no window has them, a window opens
 pub added_opens : (ws : List Window) (now : ℕ) (copy : FrameCopy) → list_any (is_of copy.phy_payload) ws ≡ false
     → windows_with ws now copy ≡ opened_too ws now copy.phy_payload (hearing_of copy)
 added_opens ws now copy none = rw none refl
@@ -96,7 +96,7 @@ opened_answers ws now bytes h after room is =
     let not_full : nat_le MOST_WINDOWS (length ws) ≡ false = grind (arith, nat_tests) in
     rw not_full is
 
--- where the oldest window isn't due, none is
+-- if the oldest window isn't due, no window is
 none_due : (now : ℕ) (w : Window) (ws : List Window) → AreKept (w ∷ ws) → now < w.opened + WAIT → NoneDue now (w ∷ ws)
 none_due now w ws kept early = All-cons (λ x. is_due now x ≡ false) w ws (grind (arith, nat_tests)) later
   where
@@ -123,7 +123,7 @@ oldest_is_due ws w now at' due = record {
   heard_in_it = refl;
 }
 
--- a sum that is there where it has 64 bits
+-- a sum that exists if it has 64 bits
 sum_in_range : (sum : ℕ) (o : Option ℕ) → SomeIff o (sum < 2 ^ 64) sum → o ≡ cond (nat_lt sum (2 ^ 64)) (Some sum) None
 sum_in_range sum None above =
     let f : nat_lt sum (2 ^ 64) ≡ false = grind (arith, nat_tests) in

@@ -3,7 +3,7 @@ use Rattle.std.proofs.Common.{◌≡◌, ℕ, zero, suc, ◌+◌, ◌<◌, ◌�
 use Rattle.std.specs.List.{list_any, position_or_len}
 use Rattle.dedup.specs.Windows.{Window, is_of}
 
--- the window at this place has the bytes, and none before it has
+-- the window at this place has the bytes, and no earlier one has
 abbrev pub IsFirst : List ℕ → List Window → ℕ → Type 0
 IsFirst bytes [] i = ⊥
 IsFirst bytes (w ∷ ws) zero = is_of bytes w ≡ true

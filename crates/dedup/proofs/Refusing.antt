@@ -1,4 +1,4 @@
--- The groups that wait refuse a copy, or take it.
+-- The waiting groups refuse a copy or take it.
 use Rattle.std.proofs.Common.{◌≡◌, ℕ, zero, suc, ◌+◌, ◌≤◌, ◌<◌, Bool, true, false, cond, not, List, [], ◌∷◌, ◌++◌, length, map, filter, take, drop, get_or, refl, sym, ap, subst, ◌∙◌, arith, Ok, Err, Some, None, ◌||◌, ◌&&◌, true≢false}
 use Rattle.std.specs.Prelude.{nat_lt, nat_le, bytes_eq, All, AllPairs, Contains, Result}
 use Rattle.std.specs.List.{list_any}
@@ -17,7 +17,7 @@ use Rattle.dedup.specs.Groups.{Arrival, is_in_group, first_groups, groups}
 use Rattle.dedup.specs.Windows.{Window, window_of_group, hearing_of, is_due, is_of, opened_by, open_windows, with_hearings, result_map, joined_windows, windows_with, NoneDue, IsCurrent, StandFor}
 use Rattle.dedup.proofs.Standing.{filter_all, filter_none}
 
--- the windows begin so far apart where they have the same bytes
+-- windows with the same bytes begin so far apart
 abbrev Apart : List Window → Type 0
 Apart ws = AllPairs (λ v w. v.phy_payload ≡ w.phy_payload → v.opened + WAIT ≤ w.opened) ws
 
@@ -31,7 +31,7 @@ firsts Q (suc n) (first ∷ rest) all =
     All-cons (λ w. Q w.opened w.phy_payload) (window_of_group (first ∷ filter (is_in_group first) rest)) (map window_of_group (first_groups n others)) (All-head P first rest all)
     (firsts Q n others (All-filter (λ a. not (is_in_group first a)) P rest (All-tail P first rest all)))
 
--- a copy that doesn't join has other bytes, or is later
+-- a copy that doesn't join a window has other bytes, or is later
 too_late : (first a : Arrival) → not (is_in_group first a) ≡ true → first.copy.phy_payload ≡ a.copy.phy_payload → first.at + WAIT ≤ a.at
 too_late first a e same =
     by (nat_lt a.at (first.at + WAIT)) refl ((bytes_decides a.copy.phy_payload first.copy.phy_payload).1 (sym same)) e
@@ -77,7 +77,7 @@ refused_too : {A B : Type 0} (f : A → B) (r : Result A Refusal) → result_err
 refused_too f (Ok x) = refl
 refused_too f (Err e) = refl
 
--- two windows of which the first isn't due, and the other is open, have other bytes
+-- of two windows, if the first isn't due and the other is open, they have different bytes
 differ : (now : ℕ) (v w : Window) → is_due now v ≡ false → w.opened ≤ now → (v.phy_payload ≡ w.phy_payload → v.opened + WAIT ≤ w.opened) → v.phy_payload ≡ w.phy_payload → ⊥
 differ now v w early le apart same = let later : v.opened + WAIT ≤ w.opened = apart same in grind (arith, nat_tests)
 

@@ -1,4 +1,4 @@
--- The windows that are open stand for the groups that aren't closed.
+-- The open windows represent the groups that aren't closed.
 use Rattle.std.proofs.Common.{◌≡◌, ℕ, zero, suc, ◌+◌, ◌≤◌, Bool, true, false, cond, List, [], ◌∷◌, ◌++◌, length, map, filter, take, drop, refl, sym, ap, subst, ◌∙◌, arith, Ok, Err, ◌||◌, add-one}
 use Rattle.std.specs.Prelude.{nat_lt, nat_le, All, Result}
 use Rattle.std.specs.List.{list_any}
@@ -26,7 +26,7 @@ not_due_is_open w now e = grind (arith, nat_tests)
 passed_over : (w : Window) (ws : List Window) (a : Arrival) → is_due a.at w ≡ true → with_arrival (w ∷ ws) a ≡ w ∷ with_arrival ws a
 passed_over w ws a e = rw (due_takes_none w a e) refl
 
--- what is closed stays as it is
+-- closed groups stay as they are
 record Kept (W : List Window) (k : ℕ) (a : Arrival) : Type 0 where
   front : take k (with_arrival W a) ≡ take k W
   behind : drop k (with_arrival W a) ≡ with_arrival (drop k W) a
@@ -50,7 +50,7 @@ longer (w ∷ W) a = by (takes w a) (longer W a)
     by true more = omega arith
     by false more = omega arith
 
--- a window takes a copy where it refuses none
+-- a window takes a copy if it doesn't refuse it
 took : (hearings : List Hearing) (h : Hearing) (after : List Hearing) → with_hearing hearings h ≡ Ok after → after ≡ hearings ++ h ∷ []
 took hearings h after = by (has_gateway hearings (gateway_of h)) (nat_le MOST (length hearings))
   where
@@ -69,7 +69,7 @@ mapped : {A B : Type 0} (f : A → B) (r : Result A Refusal) (value : B) → res
 mapped f (Ok x) value e = record { from = x; was = refl; is = cc }
 mapped f (Err x) value e = absurd (cc)
 
--- where a window has the copy's bytes, it takes the copy
+-- if a window has the copy's bytes, it takes the copy
 joined_takes : (ws : List Window) (now : ℕ) (copy : FrameCopy) (after : List Window) → IsCurrent now ws → list_any (is_of copy.phy_payload) ws ≡ true
     → joined_windows ws copy ≡ Ok after → with_arrival ws (arrival now copy) ≡ after
 joined_takes [] now copy after current there e = absurd (cc)
@@ -92,7 +92,7 @@ joined_takes (w ∷ ws) now copy after current there e =
         let tail = All-tail (λ x. (x.opened ≤ now) × (is_due now x ≡ false)) w ws current in
         rw (still, of_it) (ap (λ rest. w ∷ rest) (taken m.from tail any m.was) ∙ sym m.is)
 
--- where none has them, a window opens at the end
+-- if none has them, a window opens at the end
 opens_last : (ws : List Window) (now : ℕ) (copy : FrameCopy) → IsCurrent now ws → list_any (is_of copy.phy_payload) ws ≡ false
     → with_arrival ws (arrival now copy) ≡ ws ++ opened_by now copy ∷ []
 opens_last [] now copy current none = refl
@@ -142,7 +142,7 @@ joined_stays (w ∷ ws) now copy after current ok = by (is_of copy.phy_payload w
 just_opened : (now : ℕ) (copy : FrameCopy) → Open now (opened_by now copy)
 just_opened now copy = (omega arith, grind (arith, nat_tests))
 
--- after a copy was taken, each window is open still
+-- after a copy was taken, each window is still open
 pub added_stays : (ws : List Window) (now : ℕ) (copy : FrameCopy) (after : List Window) → IsCurrent now ws → windows_with ws now copy ≡ Ok after → IsCurrent now after
 added_stays ws now copy after current = by (list_any (is_of copy.phy_payload) ws) (nat_le MOST_WINDOWS (length ws))
   where
@@ -153,7 +153,7 @@ added_stays ws now copy after current = by (list_any (is_of copy.phy_payload) ws
         let is : after ≡ ws ++ opened_by now copy ∷ [] = cc in
         All-same (Open now) after (ws ++ opened_by now copy ∷ []) is (All-push (Open now) ws (opened_by now copy) current (just_opened now copy))
 
--- a list's part from a place on, and the part from the next place on
+-- the part of a list from one place on, and the part from the next place on
 record Split (W : List Window) (k : ℕ) (w : Window) (ws : List Window) : Type 0 where
   front : take (suc k) W ≡ take k W ++ w ∷ []
   behind : drop (suc k) W ≡ ws

@@ -1,4 +1,4 @@
--- Which copies are of one sending of a frame.
+-- Which copies belong to one sending of a frame.
 use Rattle.std.specs.Prelude.{ℕ, zero, suc, ◌+◌, Bool, not, ◌&&◌, nat_lt, List, [], ◌∷◌, length}
 use Rattle.std.specs.Prelude.{filter, bytes_eq}
 use Rattle.lw_types.specs.declared.frame_copy.FrameCopy.{FrameCopy}
@@ -17,7 +17,7 @@ abbrev pub is_in_group : Arrival → Arrival → Bool
 is_in_group first a =
     nat_lt a.at (first.at + WAIT) && bytes_eq a.copy.phy_payload first.copy.phy_payload
 
--- the first n groups: the first copy with all that join it, then the groups of the rest
+-- the first n groups: the first copy with all copies that join it, then the groups of the rest
 abbrev pub first_groups : ℕ → List Arrival → List (List Arrival)
 first_groups zero arrivals = []
 first_groups (suc n) [] = []
@@ -25,6 +25,6 @@ first_groups (suc n) (first ∷ rest) =
     (first ∷ filter (is_in_group first) rest)
     ∷ first_groups n (filter (λ a. not (is_in_group first a)) rest)
 
--- the copies of each sending, by their first copies
+-- the copies of each sending, in the order of their first copies
 abbrev pub groups : List Arrival → List (List Arrival)
 groups arrivals = first_groups (length arrivals) arrivals

@@ -1,4 +1,4 @@
--- How the windows are kept: in two maps from a frame's bytes.
+-- How the windows are stored: in two maps from a frame's bytes.
 use Rattle.std.specs.Prelude.{ℕ, zero, suc, ◌≤◌, nat_le, if◌then◌else◌, List, [], ◌∷◌, ◌++◌, Result}
 use Rattle.std.specs.Prelude.{Ok, Err, length, map, reverse, AllPairs}
 use Rattle.lw_types.specs.declared.refusal.Refusal.{Refusal}
@@ -22,14 +22,14 @@ pub record AreKept (ws : List Window) : Type 0 where
   pub few : length ws ≤ MOST_WINDOWS
   pub in_order : AllPairs (λ (a : ℕ) b. a ≤ b) (map (λ w. w.opened) ws)
 
--- the window at this place takes the copy, or refuses it
+-- the window at this place takes the copy or refuses it
 abbrev pub joined_at : List Window → ℕ → Hearing → Result (List Window) Refusal
 joined_at [] i hearing = Ok []
 joined_at (w ∷ ws) zero hearing =
     result_map (λ hearings. with_hearings w hearings ∷ ws) (with_hearing w.hearings hearing)
 joined_at (w ∷ ws) (suc i) hearing = result_map (λ rest. w ∷ rest) (joined_at ws i hearing)
 
--- a window of these bytes opens at the end, where there is room
+-- a window of these bytes opens at the end, if there is room
 abbrev pub opened_too : List Window → ℕ → List ℕ → Hearing → Result (List Window) Refusal
 opened_too ws now phy_payload hearing =
     if nat_le MOST_WINDOWS (length ws) then Err WindowsFull

@@ -12,7 +12,7 @@ use Rattle.devices.specs.Heard.{with_hearing}
 use Rattle.dedup.specs.declared.TheConstants.{WAIT, MOST_WINDOWS}
 use Rattle.dedup.specs.Groups.{Arrival, groups}
 
--- a frame's copies so far, and when the first came
+-- a frame's copies so far, and when the first one came
 pub record Window : Type 0 where
   pub opened : ℕ
   pub phy_payload : List ℕ
@@ -22,7 +22,7 @@ pub record Window : Type 0 where
 abbrev pub is_due : ℕ → Window → Bool
 is_due now window = nat_le (window.opened + WAIT) now
 
--- the moment at which the oldest window is due, where that is before this end of time
+-- the moment at which the oldest window is due, if it is before this end of time
 abbrev pub due_before : ℕ → List Window → Option ℕ
 due_before end [] = None
 due_before end (w ∷ ws) = if nat_lt (w.opened + WAIT) end then Some (w.opened + WAIT) else None
@@ -43,7 +43,7 @@ window_of_group (first ∷ rest) = record {
   hearings = map (λ a. hearing_of a.copy) (first ∷ rest);
 }
 
--- the frame of these bytes, heard so
+-- the frame of these bytes, with these copies
 abbrev pub heard_now : List ℕ → List Hearing → Heard
 heard_now phy_payload hearings = record { phy_payload = phy_payload; hearings = hearings }
 
@@ -67,7 +67,7 @@ abbrev pub with_hearings : Window → List Hearing → Window
 with_hearings window hearings =
     record { opened = window.opened; phy_payload = window.phy_payload; hearings = hearings }
 
--- the window of the copy's bytes takes the copy, or refuses it
+-- the window of the copy's bytes takes the copy or refuses it
 abbrev pub joined_windows : List Window → FrameCopy → Result (List Window) Refusal
 joined_windows [] copy = Ok []
 joined_windows (w ∷ ws) copy =
@@ -75,8 +75,8 @@ joined_windows (w ∷ ws) copy =
     (with_hearing w.hearings (hearing_of copy))
     else result_map (λ rest. w ∷ rest) (joined_windows ws copy)
 
--- a copy is taken by the window of its bytes; where there is none, a new one opens at the end, of
--- which 1,024 are open at most
+-- the window of its bytes takes the copy; if there is none, a new one opens at the end. At most
+-- 1,024 windows are open
 abbrev pub windows_with : List Window → ℕ → FrameCopy → Result (List Window) Refusal
 windows_with ws now copy =
     if list_any (is_of copy.phy_payload) ws then joined_windows ws copy
@@ -102,7 +102,8 @@ pub record IsOldestDue (now : ℕ) (ws : List Window) (heard : Heard)
   pub due : is_due now window ≡ true
   pub heard_in_it : heard ≡ heard_in window
 
--- the windows are those of these arrivals' groups behind the first `closed`, each of which is due
+-- the windows are those of these arrivals' groups after the first `closed` ones, each of which is
+-- due
 pub record StandFor (ws : List Window) (arrivals : List Arrival) (closed now : ℕ) : Type 0 where
   pub windows : ws ≡ drop closed (map window_of_group (groups arrivals))
   pub within : closed ≤ length (groups arrivals)

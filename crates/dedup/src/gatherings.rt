@@ -14,23 +14,24 @@ use std::alloc::{AllocFailed, Global};
 use std::marker::Model;
 use std::mem;
 
-// The copies of a frame so far, and when the first came.
+// The copies of a frame so far, and when the first one came.
 #[derive(Drop)]
 pub(crate) struct Gathering {
     pub(crate) opened: u64,
     pub(crate) hearings: Hearings,
 }
 
-// A queue of gatherings in which those of a frame are found by its bytes. In contracts it is the
-// list of the windows, the oldest first.
+// A queue of gatherings, in which a frame's is found by its bytes. In contracts it is the list of
+// the windows, the oldest first.
 pub(crate) struct Gatherings {
-    // The oldest, turned round: the oldest of all is the last, so that no other moves when it goes.
+    // The oldest gatherings, in reverse order: the oldest of all is the last, so removing it moves
+    // no other.
     older: IndexMap<PhyPayload, Gathering>,
-    // Those that opened after all of these, in the order of opening.
+    // The gatherings that opened after all of these, in the order of opening.
     newer: IndexMap<PhyPayload, Gathering>,
 }
 
-// By hand, as that of `Windows`.
+// By hand, like the drop of `Windows`.
 impl Drop for Gatherings {
     fn drop(self) {
         let Self { older: _, newer: _ } = self;
@@ -48,7 +49,7 @@ impl Model for Gatherings {
 }
 
 impl Gatherings {
-    // None. Takes no memory.
+    // No gatherings. Takes no memory.
     pub(crate) fn new(alloc: Global) -> Self
         ensures { result ≡ [] }
     {
@@ -74,7 +75,7 @@ impl Gatherings {
         self.older.is_empty() && self.newer.is_empty()
     }
 
-    // The oldest.
+    // The oldest gathering.
     pub(crate) fn first(&self) -> Option<(&PhyPayload, &Gathering)>
         ensures { option_map (λ r. window_of (r.0.now, r.1.now)) result ≡ slice_get self.now 0 }
     {
@@ -92,13 +93,13 @@ impl Gatherings {
         if let Some(index) = self.older.get_index_of(phy_payload) {
             return Some(older - 1 - index);
         }
-        // The length is what says that the sum fits.
+        // Its contract says that the sum fits.
         let _len = self.newer.len();
         let index = self.newer.get_index_of(phy_payload)?;
         Some(older + index)
     }
 
-    // The window at this place takes the copy, or refuses it.
+    // The window at this place takes the copy or refuses it.
     pub(crate) fn join(&mut self, index: usize, hearing: Hearing) -> Result<(), Refusal>
         requires there { index < length self.old }
         requires receivable { IsReceivable hearing.reception }
@@ -113,7 +114,7 @@ impl Gatherings {
         }
     }
 
-    // A window of these bytes, which have none, comes last.
+    // Adds a window of these bytes, which have none yet, at the end.
     pub(crate) fn push(
         &mut self,
         phy_payload: PhyPayload,
@@ -128,8 +129,9 @@ impl Gatherings {
         Ok(())
     }
 
-    // Takes the oldest out. Takes no memory, and constant time on average, since each is turned
-    // round once; at worst, where all of them are turned round, time in proportion to them.
+    // Takes the oldest gathering out. Takes no memory. It takes constant time on average, since
+    // each gathering is turned round once; at worst, when all are turned round, time in proportion
+    // to their number.
     pub(crate) fn pop_first(&mut self) -> Option<(PhyPayload, Gathering)>
         ensures first { option_map window_of result ≡ slice_get self.old 0 }
         ensures rest { self.new ≡ drop 1 self.old }

@@ -1,4 +1,4 @@
-//! What the windows stand for: the groups of all copies that were accepted.
+//! What the windows represent: the groups of all copies that were accepted.
 ghost use Rattle.std.specs.Prelude.{◌≡◌, ◌≢◌, ◌≤◌, ◌+◌, ℕ, List, [], ◌∷◌, ◌++◌, None, Ok, Some};
 ghost use Rattle.std.specs.Prelude.{true, filter, if◌then◌else◌, length, map, nat_le, take, All};
 ghost use Rattle.std.specs.Prelude.{AllPairs, Contains};
@@ -12,12 +12,12 @@ ghost use Rattle.dedup.specs.Windows.{open_windows, IsCurrent, NoneDue, StandFor
 
 use crate::{MOST_WINDOWS, WAIT};
 
-/// Before any copy no windows stand for no groups.
+/// Before any copy, the empty list of windows represents the empty list of groups.
 pub fn no_copies_no_windows()
     ensures { (now : ℕ) → StandFor [] [] 0 now }
 {}
 
-/// Each copy that is accepted goes into its group, and no group that is closed changes.
+/// Each accepted copy goes into its group, and no closed group changes.
 pub fn a_copy_goes_into_its_group()
     ensures { (ws after : List Window) (arrivals : List Arrival) (closed now : ℕ)
         (copy : FrameCopy) →
@@ -38,7 +38,7 @@ pub fn windows_stand_later_too()
         StandFor ws arrivals closed now → now ≤ later → StandFor ws arrivals closed later }
 {}
 
-/// Where no window is due, the groups that are closed are all those that are due.
+/// If no window is due, the closed groups are exactly those that are due.
 pub fn all_due_groups_are_closed()
     ensures { (ws : List Window) (arrivals : List Arrival) (closed now : ℕ) →
         StandFor ws arrivals closed now → NoneDue now ws →
@@ -52,8 +52,9 @@ pub fn windows_are_the_groups_that_wait()
         StandFor ws arrivals closed now → NoneDue now ws → ws ≡ open_windows now arrivals }
 {}
 
-/// A copy is refused by the group that waits and has its bytes, as `SameGateway` or `CopiesFull`;
-/// where there is none, as `WindowsFull` where 1,024 groups wait.
+/// If a waiting group has a copy's bytes, the copy is refused exactly as that group refuses it
+/// (`SameGateway`, `CopiesFull`). If no group has, it is refused as `WindowsFull` exactly if 1,024
+/// groups wait.
 pub fn groups_that_wait_refuse()
     ensures by_its_group { (ws : List Window) (arrivals : List Arrival) (closed now : ℕ)
         (copy : FrameCopy) (w : Window) →
@@ -70,21 +71,21 @@ pub fn groups_that_wait_refuse()
         WindowsFull else None) }
 {}
 
-/// Two groups of the same bytes begin 200 ms apart at least.
+/// Two groups of the same bytes begin at least 200 ms apart.
 pub fn groups_of_the_same_bytes_are_apart()
     ensures { (arrivals : List Arrival) → AllPairs
         (λ v w. v.phy_payload ≡ w.phy_payload → v.opened + WAIT ≤ w.opened)
         (map window_of_group (groups arrivals)) }
 {}
 
-/// After a copy was taken no window is due, and each opened at this moment or before, where it was
-/// so.
+/// If no window was due and each had opened by this moment, this is still so after a copy was
+/// taken.
 pub fn a_copy_makes_no_window_due()
     ensures { (ws after : List Window) (now : ℕ) (copy : FrameCopy) →
         IsCurrent now ws → windows_with ws now copy ≡ Ok after → IsCurrent now after }
 {}
 
-/// How long a window waits, in milliseconds, and how many are open at most.
+/// How long a window waits, in milliseconds, and how many can be open.
 pub fn limits_are_these()
     ensures wait { WAIT ≡ 200 }
     ensures windows { MOST_WINDOWS ≡ 1024 }

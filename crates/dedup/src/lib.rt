@@ -1,7 +1,7 @@
 //! The windows in which the copies of a frame are gathered, so that each frame is decided once.
 //!
-//! A copy opens a window, which takes the copies of the same bytes that come within 200 ms; then it
-//! is due. Moments are milliseconds.
+//! A copy opens a window. The window takes the copies of the same bytes that come within 200 ms;
+//! then it is due. Times are in milliseconds.
 #![tactic(auto)]
 
 mod gatherings;

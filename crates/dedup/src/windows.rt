@@ -15,13 +15,13 @@ use lw_types::{FrameCopy, PhyPayload, Refusal};
 use std::alloc::Global;
 use std::marker::Model;
 
-/// The windows that are open: at most 1,024, each of another frame. In contracts it is the list of
-/// them, in the order in which they opened.
+/// The windows that are open: at most 1,024, each of a different frame. In contracts it is the list
+/// of the windows, in the order in which they opened.
 pub struct Windows {
     gatherings: Gatherings,
 }
 
-// By hand, so that its proof is done once: a derived drop is proved anew wherever a value goes.
+// By hand, so that it is proved once: a derived drop is proved again at each use of the type.
 impl Drop for Windows {
     fn drop(self) {
         let Self { gatherings: _ } = self;
@@ -51,10 +51,10 @@ impl Windows {
     }
 
     /// Puts a copy that came at the moment `now` into the window of its bytes, or opens one.
-    /// Refused as `WindowsFull` where 1,024 windows are open and none has these bytes, as
-    /// `SameGateway` where the window has a copy of this gateway, as `CopiesFull` where it has 32
-    /// copies, each whether or not there is memory; then want of memory as `OutOfMemory`. After an
-    /// `Err` the windows are as before.
+    /// Refused as `WindowsFull` if 1,024 windows are open and none has these bytes, as
+    /// `SameGateway` if the window has a copy from this gateway, and as `CopiesFull` if it has 32
+    /// copies. Each of these is returned whether or not memory is available. If memory runs out,
+    /// the refusal is `OutOfMemory`. After an `Err` the windows are unchanged.
     pub fn add(&mut self, now: u64, copy: FrameCopy) -> Result<(), Refusal>
         requires receivable { IsReceivable copy.reception }
         requires current { IsCurrent now self.old }
@@ -73,7 +73,7 @@ impl Windows {
         }
     }
 
-    /// The oldest window where it is due: the frame's bytes, and how it was heard. `None` where no
+    /// The oldest window, if it is due: the frame's bytes, and how it was heard. `None` if no
     /// window is due. Takes no memory.
     pub fn due(&self, now: u64) -> Option<(&PhyPayload, &Hearings)>
         ensures { MatchOption result (NoneDue now self.now)
@@ -86,8 +86,8 @@ impl Windows {
         Some((phy_payload, &gathering.hearings))
     }
 
-    /// Takes the oldest window out where it is due, and gives what was heard in it. `None`, and
-    /// nothing is changed, where no window is due. Takes no memory, and constant time on average.
+    /// Takes the oldest window out, if it is due, and returns what was heard in it. If no window is
+    /// due, returns `None` and changes nothing. Takes no memory, and constant time on average.
     pub fn close(&mut self, now: u64) -> Option<Heard>
         ensures { MatchOption result ((self.new ≡ self.old) × NoneDue now self.old)
             (λ heard. IsOldestDue now self.old heard self.new) }
@@ -106,8 +106,8 @@ impl Windows {
         })
     }
 
-    /// The moment at which the oldest window is due, 200 ms after it opened. `None` where no window
-    /// is open, and where that moment is past 2^64 - 1. Takes no memory.
+    /// The moment at which the oldest window is due, 200 ms after it opened. `None` if no window is
+    /// open, or if that moment is past 2^64 - 1. Takes no memory.
     pub fn next_due(&self) -> Option<u64>
         ensures { result ≡ oldest_due self.now }
     {
@@ -115,7 +115,7 @@ impl Windows {
         gathering.opened.checked_add(WAIT)
     }
 
-    /// How many windows are open.
+    /// The number of open windows.
     pub fn len(&self) -> usize
         ensures { result ≡ length self.now }
     {
@@ -129,7 +129,7 @@ impl Windows {
         self.gatherings.is_empty()
     }
 
-    // A window of these bytes, which have none, opens at the end.
+    // Opens a window of these bytes, which have none yet, at the end.
     fn open_window(
         &mut self,
         now: u64,

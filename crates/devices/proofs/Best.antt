@@ -52,11 +52,11 @@ along a b c h i =
 as_itself : (a : Hearing) → AsGood a a
 as_itself a = inr (refl, inr (refl, omega arith))
 
--- who is better is as good
+-- a copy that is better is at least as good
 as_better : (a b : Hearing) → is_better a b ≡ true → AsGood a b
 as_better a b h = grind (arith, ints, nat_tests)
 
--- the better one of two is as good as both, and is one of them
+-- the better one of two copies is at least as good as both, and is one of them
 record IsBetterOne (a b best : Hearing) : Type 0 where
   one : (best ≡ a) ⊎ (best ≡ b)
   first : AsGood best a
@@ -86,7 +86,7 @@ head_or_tail x xs y c = at c.0 c.1 c.2
     at zero lt e = inl (sym e)
     at (suc k) lt e = inr (k, omega arith, e)
 
--- one of these, as good as each
+-- one of these copies, at least as good as each
 record IsOfBest (hearings : List Hearing) (best : Hearing) : Type 0 where
   one : Contains hearings best
   good : All (AsGood best) hearings
@@ -125,7 +125,7 @@ best_is (h ∷ hs) =
 one_gateway : (a b : Hearing) → AsGood a b → ¬ (IsBetter a b) → gateway_of a ≡ gateway_of b
 one_gateway a b good none = grind (arith, ints, nat_tests)
 
--- copies of one gateway are one copy
+-- two copies from one gateway are the same copy
 one_copy : (hs : List Hearing) (a b : Hearing) → AreApart hs → Contains hs a → Contains hs b → gateway_of a ≡ gateway_of b → a ≡ b
 one_copy hs a b apart at_a at_b e =
     let j : ℕ = at_a.0 in

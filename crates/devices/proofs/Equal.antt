@@ -1,4 +1,4 @@
--- The derived comparisons tell equal values from others.
+-- The derived comparisons distinguish equal values from others.
 use Rattle.std.proofs.Common.{◌≡◌, ◌&&◌, List, Bool, true, false, Option, Some, None, rules, refl, ap, nat_eq}
 use Rattle.std.specs.Bool.{Decides}
 use Rattle.std.specs.Option.{option_eq}
@@ -23,7 +23,7 @@ use Rattle.devices.specs.contracts.activation.ActivationPartialEq.TheImpl as act
 use Rattle.devices.specs.declared.device.Device.{Device}
 use Rattle.devices.specs.contracts.device.DevicePartialEq.TheImpl as device
 
--- two tests that decide, together
+-- two tests that decide two statements decide both together
 both : {A B : Type 0} (p q : Bool) → Decides p A → Decides q B → Decides (p && q) (A × B)
 both true q a b = (λ e. (a.0 refl, b.0 e), λ h. b.1 h.1)
 both false q a b = (λ e. absurd (false≢true e), λ h. absurd (false≢true (a.1 h.0)))

@@ -1,4 +1,4 @@
--- The copies of a frame, looked at one after another.
+-- The copies of a frame, tested one after another.
 use Rattle.std.proofs.Common.{◌≡◌, ℕ, ◌+◌, ◌<◌, ◌≤◌, List, length, take, get_or, sym, ap, subst, ◌∙◌, arith, inl, inr}
 use Rattle.std.specs.Prelude.{Any}
 use Rattle.std.proofs.lemmas.Bool.{cases_lt}
@@ -6,7 +6,7 @@ use Rattle.std.proofs.lemmas.List.{get_or-take, get_or_default, length-take-le}
 use Rattle.devices.specs.declared.heard.Hearing.{Hearing}
 use Rattle.devices.specs.Heard.{gateway_of, AreApart, IsReceivable}
 
--- no copy before the place i is of the gateway of an earlier one
+-- no copy before place i is from the gateway of an earlier one
 abbrev pub ApartBelow : List Hearing → ℕ → Type 0
 ApartBelow xs i = (d : Hearing) (j : ℕ) → j < i → (k : ℕ) → k < j → gateway_of (get_or xs k d) ≡ gateway_of (get_or xs j d) → ⊥
 
@@ -16,7 +16,7 @@ apart_none xs d j lt k less e = omega arith
 pub apart_all : (xs : List Hearing) (n : ℕ) → length xs ≤ n → ApartBelow xs n → AreApart xs
 apart_all xs n le below = λ i j d lt within e. below d j (omega arith) i lt e
 
--- a copy of this gateway stands before the place i
+-- a copy from this gateway comes before place i
 abbrev pub StandsBefore : List Hearing → ℕ → ℕ → Type 0
 StandsBefore xs i gateway = Any (λ h. gateway_of h ≡ gateway) (take i xs)
 
@@ -42,7 +42,7 @@ not_apart xs i gateway within is any apart =
     let same : get_or xs k y ≡ y = sym (get_or-take i xs k y lt) ∙ any.3 in
     apart k i y lt within (ap gateway_of same ∙ any.4 ∙ sym (is y))
 
--- each copy before the place i may have been received so
+-- each copy before place i has a reception in range
 abbrev pub ReceivableBelow : List Hearing → ℕ → Type 0
 ReceivableBelow xs i = (d : Hearing) (k : ℕ) → k < i → IsReceivable (get_or xs k d).reception
 

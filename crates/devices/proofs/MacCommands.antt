@@ -1,4 +1,4 @@
--- Queues of MAC commands, by what the laws of mac_commands say of them.
+-- Queues of MAC commands, by the laws of mac_commands.
 use Rattle.std.proofs.Common.{◌≡◌, ◌≢◌, ◌↔◌, IsTrue, ℕ, true, List, [], ◌∷◌, ◌++◌, refl}
 use Rattle.std.specs.List.{AllByRecursion}
 use Rattle.std.proofs.lemmas.Bool.{false≢true}
@@ -14,7 +14,7 @@ pub is_some_queue : (bytes : List ℕ) → bytes ≢ [] → is_queue bytes ≡ m
 is_some_queue [] some = absurd (some refl)
 is_some_queue (number ∷ bytes) some = refl
 
--- the laws of mac_commands, as their contracts have them
+-- the laws of mac_commands, as its contracts state them
 abbrev pub Finds : Type 0
 Finds = (bytes : List ℕ) → IsTrue (is_queue bytes) ↔ AreQueueable bytes
 

@@ -9,7 +9,7 @@ use Rattle.devices.specs.declared.heard.Hearing.{Hearing}
 use Rattle.devices.specs.declared.heard.TheConstants.Hearings.{MOST}
 use Rattle.devices.specs.Heard.{gateway_of, has_gateway, AreHearings, IsReceivable}
 
--- with a copy of another gateway these are still what may be all the copies of a frame
+-- with a copy from another gateway, these can still be all the copies of a frame
 pub one_more : (hs : List Hearing) (h : Hearing) → AreHearings hs → length hs < MOST → IsReceivable h.reception → has_gateway hs (gateway_of h) ≡ false → AreHearings (hs ++ h ∷ [])
 one_more hs h are room on none = record {
   some = omega (arith, length-append hs (h ∷ []));

@@ -1,20 +1,21 @@
--- What a device was granted, and which sessions it has.
+-- What a device was granted, and its sessions.
 use Rattle.std.specs.Prelude.{◌≤◌, ◌<◌, ◌+◌, ℕ, Option, Some, None, IfSome, unwrap_or}
 use Rattle.devices.specs.declared.activation.Session.{Session}
 use Rattle.devices.specs.declared.activation.CurrentSession.{CurrentSession}
 
--- the last JoinNonce granted, the current session, and the pending one, which had no uplink yet
+-- the last JoinNonce granted, the current session, and the pending one, which hasn't had an uplink
+-- yet
 pub record Grants : Type 0 where
   pub granted : Option ℕ
   pub current : Option CurrentSession
   pub pending : Option Session
 
--- the JoinNonce of the current session, 0 where there is none
+-- the JoinNonce of the current session, 0 if there is none
 abbrev pub current_nonce : Option CurrentSession → ℕ
 current_nonce None = 0
 current_nonce (Some c) = c.session.join_nonce
 
--- no session is above the last grant, and the one that waits is the later one
+-- no session is above the last grant, and the pending session is later than the current one
 pub record AreInOrder (g : Grants) : Type 0 where
   pub current : current_nonce g.current ≤ unwrap_or g.granted 0
   pub pending : IfSome g.pending (λ s. s.join_nonce ≤ unwrap_or g.granted 0)
@@ -28,12 +29,12 @@ abbrev pub grants_of : Option ℕ → Option CurrentSession → Option Session �
 grants_of granted current pending =
     record { granted = granted; current = current; pending = pending }
 
--- a session is granted: it is the pending one from now on, and the current one stays
+-- a session is granted: it becomes the pending one, and the current one stays
 abbrev pub with_grant : Grants → Session → Grants
 with_grant g s = record g { granted = Some s.join_nonce; pending = Some s }
 
--- the pending session is the current one since the uplink with this counter, and its downlinks
--- count from 0
+-- the pending session becomes the current one, after the uplink with this counter, and its
+-- downlinks count from 0
 abbrev pub with_current : Grants → Session → ℕ → Grants
 with_current g s up =
     record g {

@@ -1,10 +1,10 @@
--- Which records a device may have, one after the other.
+-- Which record of a device may follow which.
 use Rattle.std.specs.Prelude.{◌≡◌, ◌⊎◌, ◌<◌, ◌+◌, ℕ, List, [], ◌∷◌, ◌++◌}
 use Rattle.devices.specs.declared.queue.Item.{Item}
 use Rattle.devices.specs.declared.device.Device.{Device}
 use Rattle.devices.specs.declared.TheConstants.{LAST_HEARD}
 
--- two records have what a device is provisioned with in common
+-- two records agree in what a device is provisioned with
 pub record AreProvisionedAlike (before after : Device) : Type 0 where
   pub dev_eui : after.dev_eui ≡ before.dev_eui
   pub join_eui : after.join_eui ≡ before.join_eui
@@ -20,12 +20,12 @@ AreItemsAfter before after =
     ⊎ (((first : Item) × (before ≡ first ∷ after))
     ⊎ ((item : Item) × (after ≡ before ++ item ∷ [])))
 
--- the count of uplinks afterwards: the same, or, before its end, one more
+-- the count of uplinks afterwards: the same or, below its highest value, one more
 abbrev pub IsHeardAfter : ℕ → ℕ → Type 0
 IsHeardAfter before after = (after ≡ before) ⊎ ((before < LAST_HEARD) × (after ≡ before + 1))
 
--- what the device was provisioned with stays; one item comes or leaves, and one uplink is counted,
--- at most
+-- what the device was provisioned with stays; at most one item comes or leaves, and at most one
+-- uplink is counted
 pub record MayBecome (before after : Device) : Type 0 where
   pub provisioned : AreProvisionedAlike before after
   pub items : AreItemsAfter before.items after.items

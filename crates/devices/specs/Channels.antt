@@ -4,7 +4,7 @@ use Rattle.region_eu868.specs.Region.{channels, first_channels, is_among}
 use Rattle.devices.specs.declared.channels.Channels.{Channels}
 use Rattle.devices.specs.declared.channels.Channels.TheVariants.{Three, Eight}
 
--- those of a session: the first three, or all eight
+-- the channels of a session: the first three, or all eight
 abbrev pub channels_of : Channels → List ℕ
 channels_of Three = first_channels
 channels_of Eight = channels

@@ -23,6 +23,6 @@ new_device p =
       heard = 0;
     }
 
--- the count of uplinks after one more: at its end it stays
+-- the count of uplinks after one more; at its highest value it stays
 abbrev pub one_more_heard : ℕ → ℕ
 one_more_heard heard = if nat_lt heard LAST_HEARD then heard + 1 else heard

@@ -1,4 +1,4 @@
--- A frame with all the copies of it.
+-- A frame with all its copies.
 use Rattle.std.specs.Prelude.{◌≡◌, ◌≢◌, ◌≤◌, ◌<◌, ◌<ℤ◌, ◌⊎◌, ℕ, Bool, true, false, ◌==◌, nat_le}
 use Rattle.std.specs.Prelude.{nat_lt, int_lt, if◌then◌else◌, List, [], ◌∷◌, ◌++◌, Option, Some}
 use Rattle.std.specs.Prelude.{None, Result, Ok, Err, length, All, AllPairs, Contains}
@@ -17,22 +17,22 @@ gateway_of h = h.reception.gateway.0
 abbrev pub IsReceivable : Reception → Type 0
 IsReceivable r = Contains channels r.frequency × (r.data_rate ≤ 5)
 
--- no two copies are of one gateway
+-- no two copies are from one gateway
 abbrev pub AreApart : List Hearing → Type 0
 AreApart hearings = AllPairs (λ a b. gateway_of a ≢ gateway_of b) hearings
 
--- what may be all the copies of a frame
+-- these can be all the copies of a frame
 pub record AreHearings (hearings : List Hearing) : Type 0 where
   pub some : 0 < length hearings
   pub few : length hearings ≤ MOST
   pub receivable : All (λ h. IsReceivable h.reception) hearings
   pub apart : AreApart hearings
 
--- a copy is of this gateway
+-- a copy is from this gateway
 abbrev pub has_gateway : List Hearing → ℕ → Bool
 has_gateway hearings gateway = list_any (λ h. gateway_of h == gateway) hearings
 
--- the copies with one more: one of each gateway, and 32 at most
+-- the copies with one more: at most one from each gateway, and at most 32
 abbrev pub with_hearing : List Hearing → Hearing → Result (List Hearing) Refusal
 with_hearing hearings hearing =
     if has_gateway hearings (gateway_of hearing) then Err SameGateway
@@ -40,7 +40,7 @@ with_hearing hearings hearing =
     else Ok (hearings ++ hearing ∷ [])
 
 -- whether a copy was heard better than another: with a greater SNR, else with a greater RSSI, else
--- by a smaller gateway
+-- by a smaller gateway EUI
 abbrev pub is_better : Hearing → Hearing → Bool
 is_better a b =
     if int_lt b.reception.snr a.reception.snr then true
@@ -63,15 +63,15 @@ abbrev pub best_of : List Hearing → Option Hearing
 best_of [] = None
 best_of (h ∷ hs) = Some (best_with h hs)
 
--- a copy was heard better than another: with a greater SNR, with the same and a greater RSSI, or
--- with both the same and by a smaller gateway
+-- a copy was heard better than another: with a greater SNR; or with the same SNR and a greater
+-- RSSI; or with both the same, by a smaller gateway EUI
 abbrev pub IsBetter : Hearing → Hearing → Type 0
 IsBetter a b =
     (b.reception.snr <ℤ a.reception.snr)
     ⊎ (a.reception.snr ≡ b.reception.snr) × ((b.reception.rssi <ℤ a.reception.rssi)
     ⊎ (a.reception.rssi ≡ b.reception.rssi) × (gateway_of a < gateway_of b))
 
--- one of these copies, and none of them is better
+-- one of these copies, such that no other is better
 pub record IsBest (hearings : List Hearing) (best : Hearing) : Type 0 where
   pub one : Contains hearings best
   pub greatest : All (λ h. ¬ (IsBetter h best)) hearings

@@ -1,4 +1,4 @@
-// Joins granted to a device, and its sessions (TS001-1.0.4 §6.2).
+// Joins that a device was granted, and its sessions (TS001-1.0.4 §6.2).
 ghost use Rattle.std.specs.Prelude.{◌≡◌, ◌≤◌, ◌<◌, ◌↔◌, ◌^◌, IsTrue, IfSome, option_map, unwrap_or};
 ghost use Rattle.devices.specs.Activation.{current_nonce};
 
@@ -6,7 +6,7 @@ use crate::{Channels, GrantsSince, NextDown};
 use lw_types::{JoinNonce, Key};
 use std::marker::Model;
 
-/// A session as a join makes it: its JoinNonce, its keys, and the channels that its accept gave.
+/// A session as a join makes it: its JoinNonce, its keys, and the channels from its accept.
 #[derive(Clone, Copy, PartialEq, Eq)]
 pub struct Session {
     pub join_nonce: JoinNonce,
@@ -23,8 +23,8 @@ pub struct CurrentSession {
     pub next_down: NextDown,
 }
 
-/// The last JoinNonce granted to a device and its sessions: none is above the last grant, and the
-/// pending one, which waits for its first uplink, is later than the current one.
+/// The last JoinNonce granted to a device, and its sessions. No session is above the last grant.
+/// The pending session waits for its first uplink; it is later than the current one.
 #[derive(Clone, Copy, PartialEq, Eq)]
 pub struct Activation {
     granted: Option<JoinNonce>,
@@ -63,7 +63,7 @@ impl Activation {
         }
     }
 
-    /// These grants and sessions, where they are in order.
+    /// These grants and sessions; `None` if they aren't in order.
     pub fn new(
         granted: Option<JoinNonce>,
         current: Option<CurrentSession>,
@@ -100,8 +100,8 @@ impl Activation {
         self.current
     }
 
-    /// Grants a session, under a JoinNonce above the last one. It waits for its first uplink, in
-    /// the place of one that waited, and the current session stays.
+    /// Grants a session with a JoinNonce above the last one. It is pending until its first uplink,
+    /// and replaces a session that was pending. The current session stays.
     pub fn grant(&mut self, session: Session)
         requires { unwrap_or self.old.granted 0 < session.join_nonce }
         ensures { self.new ≡ with_grant self.old session }
@@ -110,8 +110,8 @@ impl Activation {
         self.pending = Some(session);
     }
 
-    /// The pending session is the current one from its first uplink on, which has this counter. Its
-    /// downlinks count from 0.
+    /// Makes the pending session the current one, after its first uplink, which has this counter.
+    /// Its downlinks count from 0.
     pub fn begin(&mut self, session: Session, up: u32)
         requires { self.old.pending ≡ Some session }
         ensures { self.new ≡ with_current self.old session up }
@@ -124,7 +124,7 @@ impl Activation {
         self.pending = None;
     }
 
-    /// The current session had an uplink with this counter.
+    /// Records that the current session had an uplink with this counter.
     pub fn advance(&mut self, current: CurrentSession, up: u32)
         requires { self.old.current ≡ Some current }
         ensures { self.new ≡ with_last_up self.old current up }
@@ -135,7 +135,7 @@ impl Activation {
         });
     }
 
-    /// The current session had a downlink, which used its next counter (FCntDown) up.
+    /// Uses up the next downlink counter (FCntDown) of the current session.
     pub fn use_down(&mut self, current: CurrentSession)
         requires in_use { self.old.current ≡ Some current }
         requires is_left { current.next_down < 2 ^ 32 }
@@ -148,7 +148,7 @@ impl Activation {
         });
     }
 
-    /// Counts this JoinNonce as granted: the last granted one is raised to it unless it is higher
+    /// Counts this JoinNonce as granted: raises the last granted one to it, unless that is higher
     /// already. The sessions stay.
     pub fn raise(&mut self, to: JoinNonce)
         ensures { self.new ≡ raised_grants to self.old }
@@ -158,8 +158,8 @@ impl Activation {
         }
     }
 
-    /// The grants of an older copy that is restored: the last granted JoinNonce is `since` higher,
-    /// and no session is left. `None` exactly if fewer than `since` JoinNonces are left above it.
+    /// The grants of a restored older copy: the last granted JoinNonce is `since` higher, and no
+    /// session is left. `None` exactly if fewer than `since` JoinNonces are left above it.
     pub fn restored(&self, since: GrantsSince) -> Option<Self>
         ensures { SomeIff result (has_grants_left since self.now ≡ true)
             (restored_grants since self.now) }
@@ -172,7 +172,7 @@ impl Activation {
         })
     }
 
-    /// The pending session, which had no uplink yet.
+    /// The pending session, which hasn't had an uplink yet.
     pub fn pending(&self) -> Option<Session>
         ensures { result ≡ self.now.pending }
     {
@@ -183,14 +183,14 @@ impl Activation {
 impl Activation {
     ghost use Rattle.devices.specs.Parts.{session_of, counters_of};
 
-    /// Whether the current session is the same one, whatever its counters are.
+    /// Whether both have the same current session, leaving its counters aside.
     pub fn same_session(&self, other: &Activation) -> bool
         ensures { IsTrue result ↔ (session_of self.now ≡ session_of other.now) }
     {
         session_of(&self.current) == session_of(&other.current)
     }
 
-    /// Whether the counters of the current session are the same, whatever the session is.
+    /// Whether the counters of both current sessions are the same, leaving the sessions aside.
     pub fn same_counters(&self, other: &Activation) -> bool
         ensures { IsTrue result ↔ (counters_of self.now ≡ counters_of other.now) }
     {
@@ -225,7 +225,7 @@ fn counters_of(current: &Option<CurrentSession>) -> Option<(u32, NextDown)>
     }
 }
 
-// The number of the last grant, 0 where there is none.
+// The number of the last grant, 0 if there is none.
 fn granted_nonce(granted: &Option<JoinNonce>) -> u32
     ensures value { result ≡ unwrap_or granted.now 0 }
     ensures range { result < 2 ^ 24 }
@@ -236,7 +236,7 @@ fn granted_nonce(granted: &Option<JoinNonce>) -> u32
     }
 }
 
-// The JoinNonce of the current session, 0 where there is none.
+// The JoinNonce of the current session, 0 if there is none.
 fn current_nonce(current: &Option<CurrentSession>) -> u32
     ensures { result ≡ current_nonce current.now }
 {
@@ -246,7 +246,7 @@ fn current_nonce(current: &Option<CurrentSession>) -> u32
     }
 }
 
-// Whether the pending session, if there is one, is above the current one and not above the last
+// Whether the pending session, if there is one, is above the current session and at most the last
 // grant.
 fn is_between(pending: &Option<Session>, used: u32, last: u32) -> bool
     ensures { IsTrue result ↔ (IfSome pending.now (λ s. s.join_nonce ≤ last)

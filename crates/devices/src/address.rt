@@ -4,8 +4,8 @@ ghost use Rattle.devices.specs.Address.{dev_addr, slot_at};
 
 use lw_types::{DevAddr, NetId};
 
-/// The address of the session that a device at a slot has from the join of this JoinNonce: the low
-/// six bits of the NetID, the slot, and the 13 low bits of the JoinNonce.
+/// The address that a device at this slot has in the session of this JoinNonce: the low six bits of
+/// the NetID, the slot, and the 13 low bits of the JoinNonce.
 pub fn dev_addr(net_id: NetId, slot: u16, join_nonce: u32) -> DevAddr
     ensures { result ≡ dev_addr net_id slot join_nonce }
 {
@@ -13,7 +13,7 @@ pub fn dev_addr(net_id: NetId, slot: u16, join_nonce: u32) -> DevAddr
     DevAddr(u32::from(net_id.get() % 64) * (1 << 25) + nwk_addr)
 }
 
-/// The slot that an address leads to, from 0 to 4,095, whatever its network.
+/// The slot that an address leads to, from 0 to 4,095, for any network.
 pub fn slot_at(address: DevAddr) -> u16
     ensures slot { result ≡ slot_at address.0 }
     ensures range { result < 4096 }

@@ -4,12 +4,12 @@ ghost use Rattle.devices.specs.Channels.{may_use};
 
 use region_eu868::{is_channel, is_first_channel};
 
-/// On which channels the device of a session sends.
+/// The channels on which the device of a session sends.
 #[derive(Clone, Copy, PartialEq, Eq)]
 pub enum Channels {
-    /// On the three that each device has from the start. Its accept added none.
+    /// The three that each device has from the start. The session's accept added none.
     Three,
-    /// On all eight, of which its accept added five.
+    /// All eight. The session's accept added five of them.
     Eight,
 }
 

@@ -1,8 +1,8 @@
-// What is asked of the network.
+// What the network is asked to do.
 use crate::{Application, AskedBytes, Heard, Rx1Offset, RxDelay, Tag};
 use lw_types::{Eui, Key};
 
-/// What an application says of a device that it provisions.
+/// A device to be provisioned, as its application describes it.
 #[derive(Clone, Copy, PartialEq, Eq)]
 pub struct Provisioning {
     pub application: Application,
@@ -13,7 +13,7 @@ pub struct Provisioning {
     pub rx_delay: RxDelay,
 }
 
-/// An item as an application hands it in: neither its port nor its length is known to be in range.
+/// An item as an application hands it in. Its port and its length may be out of range.
 #[derive(Clone, PartialEq, Eq, Drop)]
 pub struct Queueing {
     pub application: Application,
@@ -32,12 +32,12 @@ pub struct MacQueueing {
     pub commands: AskedBytes,
 }
 
-/// What a device, or the network for it, is asked to do.
+/// What the network is asked to do about a device.
 #[derive(Clone, PartialEq, Eq, Drop)]
 pub enum Command {
     /// A new device is provisioned.
     Provision(Provisioning),
-    /// Gateways heard a frame.
+    /// Gateways heard a frame of a device.
     Heard(Heard),
     /// An application queues an item for its device.
     Queue(Queueing),
@@ -45,7 +45,7 @@ pub enum Command {
     QueueMac(MacQueueing),
 }
 
-/// What an application asks for: each command but a frame that was heard.
+/// A command of an application: every command except a frame that was heard.
 #[derive(Clone, PartialEq, Eq, Drop)]
 pub enum ApplicationCommand {
     /// A new device is provisioned.
@@ -60,7 +60,7 @@ impl ApplicationCommand {
     ghost use Rattle.std.specs.Prelude.{◌≡◌};
     ghost use Rattle.devices.specs.Command.{as_command};
 
-    /// The command that it is.
+    /// The same command as a [`Command`].
     pub fn into_command(self) -> Command
         ensures { result ≡ as_command self }
     {

@@ -9,24 +9,24 @@ use crate::{
 use lw_types::{Eui, JoinNonce, Key, Refusal};
 use std::alloc::Global;
 
-/// What the network knows of a device. Its queues outlive a join.
+/// What the network knows of a device. Its queues survive a join.
 #[derive(Clone, PartialEq, Eq, Drop)]
 pub struct Device {
     pub dev_eui: Eui,
     pub join_eui: Eui,
     pub app_key: Key,
-    /// Whose device it is.
+    /// The application that the device belongs to.
     pub application: Application,
     pub rx1_offset: Rx1Offset,
     pub rx_delay: RxDelay,
     /// The last DevNonce accepted.
     pub last_dev_nonce: Option<u16>,
     pub activation: Activation,
-    /// The item that was sent confirmed and isn't answered yet.
+    /// The item that was sent confirmed and has no answer yet.
     pub awaited: Option<Tag>,
     pub mac_queue: MacQueue,
     pub items: ItemQueue,
-    /// The new uplinks accepted over all sessions.
+    /// The number of new uplinks accepted, over all sessions.
     pub heard: UplinkCount,
 }
 
@@ -55,7 +55,7 @@ impl Device {
         }
     }
 
-    /// One more uplink is counted, unless the count is at its end, where it stays.
+    /// Counts one more uplink. At its highest value the count stays.
     pub fn hear_one_more(&mut self)
         ensures { self.new ≡ record self.old { heard = one_more_heard self.old.heard } }
     {
@@ -65,8 +65,8 @@ impl Device {
         }
     }
 
-    /// Counts this JoinNonce as granted to the device: the last granted one is raised to it unless
-    /// it is higher already. All else stays.
+    /// Counts this JoinNonce as granted to the device: raises the last granted one to it, unless
+    /// that is higher already. All else stays.
     pub fn raise(&mut self, to: JoinNonce)
         ensures { self.new ≡ raised_device to self.old }
     {
@@ -80,9 +80,9 @@ impl Device {
         self.activation.restored(since).is_some()
     }
 
-    /// Restores the record of an older copy: the last granted JoinNonce is raised by `since`, no
-    /// session is left, and all else stays. Returns whether `since` JoinNonces were left; if not,
-    /// nothing changes.
+    /// Restores the record of an older copy: raises the last granted JoinNonce by `since` and drops
+    /// every session. All else stays. Returns whether `since` JoinNonces were left; if not, nothing
+    /// changes.
     pub fn restore(&mut self, since: GrantsSince) -> bool
         ensures left { result ≡ has_grants_left since self.old.activation }
         ensures restored { result ≡ true → self.new ≡ restored_device since self.old }
@@ -97,7 +97,7 @@ impl Device {
         }
     }
 
-    /// The same record, in memory of its own.
+    /// The same record in newly allocated memory.
     pub fn copy(&self) -> Result<Self, Refusal>
         ensures { MatchResult result (λ device. device ≡ self.now) (λ e. e ≡ OutOfMemory) }
     {
@@ -124,7 +124,7 @@ impl Device {
             && self.activation.granted() == other.activation.granted()
     }
 
-    /// Whether both records have the same current session, whatever its counters are.
+    /// Whether both records have the same current session, leaving its counters aside.
     pub fn same_session(&self, other: &Device) -> bool
         ensures { IsTrue result
             ↔ (session_of self.now.activation ≡ session_of other.now.activation) }
@@ -132,8 +132,8 @@ impl Device {
         self.activation.same_session(&other.activation)
     }
 
-    /// Whether the counters of both records' current sessions are the same, whatever the sessions
-    /// are.
+    /// Whether the counters of both records' current sessions are the same, leaving the sessions
+    /// aside.
     pub fn same_counters(&self, other: &Device) -> bool
         ensures { IsTrue result
             ↔ (counters_of self.now.activation ≡ counters_of other.now.activation) }
@@ -148,14 +148,14 @@ impl Device {
         self.activation.same_pending(&other.activation)
     }
 
-    /// Whether the same item is awaited in both records.
+    /// Whether both records await the same item.
     pub fn same_awaited(&self, other: &Device) -> bool
         ensures { IsTrue result ↔ (self.now.awaited ≡ other.now.awaited) }
     {
         self.awaited == other.awaited
     }
 
-    /// Whether the same MAC commands wait in both records.
+    /// Whether both records have the same MAC commands waiting.
     pub fn same_mac_queue(&self, other: &Device) -> bool
         ensures { IsTrue result ↔ (self.now.mac_queue ≡ other.now.mac_queue) }
     {

@@ -1,33 +1,33 @@
-// What leaves the network by a decision.
+// What leaves the network after a decision.
 use crate::{Application, Copies, Payload, Port, RxDelay, SessionName, Tag};
 use lw_types::{Eui, JoinNonce, PhyPayload, Reception};
 
-/// In which receive windows of the device a gateway may send (TS001-1.0.4 §3.3).
+/// The receive windows in which a gateway may send to the device (TS001-1.0.4 §3.3).
 #[derive(Clone, Copy, PartialEq, Eq)]
 pub enum ReceiveWindows {
-    /// In RX1 alone.
+    /// Only RX1.
     Rx1,
     /// In RX1, or one second later in RX2.
     Rx1OrRx2,
 }
 
-/// A frame that a gateway is to send once.
+/// A frame that a gateway has to send once.
 #[derive(PartialEq, Eq, Drop)]
 pub struct Downlink {
     pub gateway: Eui,
-    /// The gateway's moment of the uplink, in microseconds.
+    /// The gateway's time at the end of the uplink, in microseconds.
     pub stamp: u32,
     /// Of RX1, in Hz.
     pub frequency: u32,
     /// Of RX1.
     pub data_rate: u8,
-    /// Of RX1 after the uplink.
+    /// From the uplink to RX1.
     pub delay: RxDelay,
     pub windows: ReceiveWindows,
     pub frame: PhyPayload,
 }
 
-/// What is reported to an application of its device.
+/// A report to the application about its device.
 #[derive(PartialEq, Eq, Drop)]
 pub enum Report {
     /// The device was provisioned, and has this slot.
@@ -61,8 +61,9 @@ pub enum Report {
     },
 }
 
-/// What leaves the network, once its decision is durable. What may leave but once names its mark:
-/// the session, and the counter that is used up. It isn't `Clone`, since each effect leaves once.
+/// What leaves the network, after its decision is durable. An effect that may leave only once names
+/// its mark: the session, and the counter that is used up. `Effect` isn't `Clone`, since each
+/// effect leaves once.
 #[derive(PartialEq, Eq, Drop)]
 pub enum Effect {
     /// A device's payload, for its application.
@@ -74,7 +75,7 @@ pub enum Effect {
         port: Port,
         payload: Payload,
         copies: Copies,
-        /// How the gateway that heard it best did.
+        /// The reception at the gateway that heard it best.
         best: Reception,
     },
     /// A granted join, for a gateway.
@@ -82,7 +83,7 @@ pub enum Effect {
         session: SessionName,
         downlink: Downlink,
     },
-    /// A frame under a downlink counter, for a gateway.
+    /// A frame with a downlink counter, for a gateway.
     Down {
         session: SessionName,
         /// The whole counter of the downlink.

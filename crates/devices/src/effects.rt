@@ -6,12 +6,13 @@ use crate::{Device, Effect, Report};
 use std::alloc::{AllocError, Global};
 use std::marker::Model;
 
-/// At most four effects, in the order in which they leave. In contracts it is the list of them.
+/// At most four effects, in the order in which they leave. In contracts it is the list of these
+/// effects.
 pub struct Effects {
     items: Vec<Effect>,
 }
 
-// By hand, so that its proof is done once: a derived drop is proved anew wherever a value goes.
+// By hand, so that it is proved once: a derived drop is proved again at each use of the type.
 impl Drop for Effects {
     fn drop(self) {
         let Self { items: _ } = self;
@@ -31,7 +32,7 @@ impl Model for Effects {
 }
 
 impl Effects {
-    /// The most effects that one decision has.
+    /// The most effects of one decision.
     pub const MOST: usize = 4;
 
     /// No effects. Takes no memory.
@@ -43,7 +44,7 @@ impl Effects {
         }
     }
 
-    /// Adds an effect at the end. After an `Err` the list is as before.
+    /// Adds an effect at the end. After an `Err` the list is unchanged.
     pub fn push(&mut self, effect: Effect) -> Result<(), AllocError>
         requires { length self.old < Self.MOST }
         ensures ok { OnOk result (self.new ≡ self.old ++ effect ∷ []) }
@@ -53,7 +54,7 @@ impl Effects {
         Ok(())
     }
 
-    /// Something is reported to the device's application. After an `Err` the list is as before.
+    /// Adds a report to the device's application at the end. After an `Err` the list is unchanged.
     pub fn tell(&mut self, device: &Device, report: Report) -> Result<(), AllocError>
         requires { length self.old < Self.MOST }
         ensures ok { OnOk result (self.new ≡ self.old ++ report_effects device.now report) }

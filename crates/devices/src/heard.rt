@@ -1,4 +1,4 @@
-// A frame with all the copies of it.
+// A frame with all its copies.
 ghost use Rattle.std.specs.Prelude.{◌≡◌, ◌≤◌, ◌<◌, ◌↔◌, [], ◌∷◌, All, AllPairs, Any, IsTrue};
 ghost use Rattle.std.specs.Prelude.{MatchOption, MatchResult, OnErr, Some, length};
 ghost use Rattle.lw_types.specs.Answer.{Answers};
@@ -12,20 +12,20 @@ use region_eu868::is_channel;
 use std::alloc::{AllocError, Global};
 use std::marker::Model;
 
-/// How one gateway heard a frame, and its moment of the frame's end, in microseconds.
+/// How one gateway heard a frame, and its time at the end of the frame, in microseconds.
 #[derive(Clone, Copy, PartialEq, Eq)]
 pub struct Hearing {
     pub reception: Reception,
     pub stamp: u32,
 }
 
-/// How 1 to 32 gateways heard one frame: no two copies are from one gateway, and each is on a
-/// channel at a data rate from 0 to 5. In contracts it is the list of them.
+/// How 1 to 32 gateways heard one frame: one copy from each gateway, each on a channel and at a
+/// data rate from 0 to 5. In contracts it is the list of the copies.
 pub struct Hearings {
     items: Vec<Hearing>,
 }
 
-// By hand, so that its proof is done once: a derived drop is proved anew wherever a value goes.
+// By hand, so that it is proved once: a derived drop is proved again at each use of the type.
 impl Drop for Hearings {
     fn drop(self) {
         let Self { items: _ } = self;
@@ -44,7 +44,7 @@ impl Model for Hearings {
     ghost invariant = { λ h. AreHearings h.items.items };
 }
 
-/// A frame with all the copies of it that gateways heard. Its bytes are kept once.
+/// A frame with all the copies of it that gateways heard. Its bytes are kept only once.
 #[derive(Clone, PartialEq, Eq, Drop)]
 pub struct Heard {
     pub phy_payload: PhyPayload,
@@ -52,11 +52,12 @@ pub struct Heard {
 }
 
 impl Hearings {
-    /// The most gateways of which a copy is kept.
+    /// The most gateways from which a copy is kept.
     pub const MOST: usize = 32;
 
-    /// These copies, in the order in which they came; `None` where they are none or more than 32,
-    /// two are of one gateway, or one is not on a channel at a data rate from 0 to 5.
+    /// These copies, in the order in which they came. `None` if there are none or more than 32, or
+    /// if two are from one gateway. Also `None` if one isn't on a channel and at a data rate from 0
+    /// to 5.
     pub fn new(items: Vec<Hearing>) -> Option<Self>
         ensures { MatchOption result (¬ (AreHearings items.items))
             (λ h. AreHearings items.items × (h ≡ items.items)) }
@@ -68,7 +69,7 @@ impl Hearings {
         }
     }
 
-    /// The first copy of a frame. Want of memory is refused as `OutOfMemory`.
+    /// The first copy of a frame. If memory runs out, it is refused as `OutOfMemory`.
     pub fn of(alloc: Global, first: Hearing) -> Result<Self, Refusal>
         requires { IsReceivable first.reception }
         ensures { MatchResult result (λ h. h ≡ first ∷ []) (λ e. e ≡ OutOfMemory) }
@@ -78,9 +79,9 @@ impl Hearings {
         Ok(Hearings { items })
     }
 
-    /// Adds a copy at the end. Refused as `SameGateway` where a copy of its gateway is there, then
-    /// as `CopiesFull` where there are 32, both whether or not there is memory; then want of memory
-    /// as `OutOfMemory`. After an `Err` the copies are as before.
+    /// Adds a copy at the end. It is refused as `SameGateway` if its gateway already has a copy,
+    /// then as `CopiesFull` if there are 32. Both are returned whether or not memory is available.
+    /// If memory runs out, it is refused as `OutOfMemory`. After an `Err` the copies are unchanged.
     pub fn add(&mut self, hearing: Hearing) -> Result<(), Refusal>
         requires { IsReceivable hearing.reception }
         ensures added { Answers (with_hearing self.old hearing)
@@ -105,15 +106,15 @@ impl Hearings {
         self.items.as_slice()
     }
 
-    /// How many copies there are, which is of how many gateways.
+    /// The number of copies, which is the number of gateways.
     pub fn copies(&self) -> Copies
         ensures { result ≡ length self.now }
     {
         Copies::new(self.items.len() as u64).unwrap()
     }
 
-    /// The copy that was heard best: of the greatest SNR, of these of the greatest RSSI, and of
-    /// these of the least gateway.
+    /// The copy that was heard best: the one with the greatest SNR, among these the greatest RSSI,
+    /// and among these the smallest gateway EUI.
     #[tactic(auto, using(crate::proofs::Best::best_receivable))]
     pub fn best(&self) -> Hearing
         ensures best { Some result ≡ best_of self.now }
@@ -123,7 +124,7 @@ impl Hearings {
         self.heard_best()
     }
 
-    // The copy that is better than those before it and that none behind it betters.
+    // The copy that is better than those before it and at least as good as those after it.
     fn heard_best(&self) -> Hearing
         ensures best { Some result ≡ best_of self.now }
         ensures in_range { AreHearings self.now }
@@ -139,7 +140,7 @@ impl Hearings {
 }
 
 impl Hearing {
-    // Whether the frame was heard better so.
+    // Whether this copy was heard better than the other.
     fn is_better_than(&self, other: &Hearing) -> bool
         ensures { result ≡ is_better self.now other.now }
     {
@@ -201,7 +202,7 @@ fn are_hearings(hearings: &[Hearing]) -> bool
     are_apart(hearings)
 }
 
-/// Whether a gateway may have heard a frame so: on a channel, at a data rate from 0 to 5.
+/// Whether this reception is in range: on a channel, at a data rate from 0 to 5.
 pub fn is_receivable(reception: &Reception) -> bool
     ensures { IsTrue result ↔ IsReceivable reception.now }
 {
@@ -219,7 +220,7 @@ fn are_receivable(hearings: &[Hearing]) -> bool
     true
 }
 
-// Whether a copy is of this gateway.
+// Whether one of the copies is from this gateway.
 fn has_gateway(hearings: &[Hearing], gateway: Eui) -> bool
     ensures any { IsTrue result ↔ Any (λ h. gateway_of h ≡ gateway.0) hearings.now }
     ensures tested { result ≡ has_gateway hearings.now gateway.0 }
@@ -229,7 +230,7 @@ fn has_gateway(hearings: &[Hearing], gateway: Eui) -> bool
         .any(|hearing| hearing.reception.gateway.0 == gateway.0)
 }
 
-// Whether no two copies are of one gateway.
+// Whether no two copies are from one gateway.
 fn are_apart(hearings: &[Hearing]) -> bool
     ensures { IsTrue result ↔ AreApart hearings.now }
 {

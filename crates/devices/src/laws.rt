@@ -1,5 +1,5 @@
-//! The ranges of the types: each is what its name says, and no neighbour is let in or left out.
-//! Which copy of a frame is the best one, and that addresses lead to their devices.
+//! Laws of the types' ranges: each range is the one that its name says, with no value more or less.
+//! Also: which copy of a frame is the best, and that addresses lead to their devices.
 ghost use Rattle.std.specs.Prelude.{◌≡◌, ◌≤◌, ◌<◌, ◌-◌, ◌^◌, ◌↔◌, ℕ, IsTrue, List, [], MatchOption};
 ghost use Rattle.std.specs.Prelude.{Some, SomeIff};
 ghost use Rattle.devices.specs.declared.heard.Hearing.{Hearing};
@@ -46,7 +46,7 @@ pub fn next_downs_are_at_most_2_to_the_32(number: u64) -> Option<NextDown>
     NextDown::new(number)
 }
 
-/// From 1 to 32 gateways hear an uplink.
+/// An uplink is heard by 1 to 32 gateways.
 pub fn copies_are_1_to_32(number: u64) -> Option<Copies>
     ensures { SomeIff result ((1 ≤ number) × (number ≤ 32)) number }
 {
@@ -60,8 +60,8 @@ pub fn uplinks_are_counted_to_the_last(number: u64) -> Option<UplinkCount>
     UplinkCount::new(number)
 }
 
-/// What a device's queues, a decision's effects and a frame's copies have room for, and where the
-/// count of uplinks ends.
+/// The limits of a device's queues, a decision's effects and a frame's copies, and the highest
+/// count of uplinks.
 pub fn limits_are_these()
     ensures mac_queue { MacQueue.MOST ≡ 128 }
     ensures items { ItemQueue.MOST ≡ 16 }
@@ -70,8 +70,8 @@ pub fn limits_are_these()
     ensures heard { LAST_HEARD ≡ 2 ^ 63 - 1 }
 {}
 
-/// The best of the copies of a frame: one of them, unless there are none, such that no other was
-/// heard better. Where no two copies are of one gateway, it is the only such copy.
+/// The best copy of a frame is one of its copies, unless there are none, and no other was heard
+/// better. If no two copies are from one gateway, it is the only such copy.
 pub fn the_best_copy_is_heard_best()
     ensures better { (a b : Hearing) → IsTrue (is_better a b) ↔ IsBetter a b }
     ensures best { (hearings : List Hearing) →

@@ -1,7 +1,7 @@
-//! Device records, and the commands and effects that pass a device by.
+//! Device records, and the commands and effects of a device.
 //!
-//! Everything here is in range by its type: a value that exists is one that the standard and the
-//! store's layout allow, so no caller tests a range again.
+//! Every value here is in range by its type: if a value exists, the standard and the store's layout
+//! allow it. So no caller tests a range again.
 #![tactic(auto)]
 
 mod activation;
@@ -39,25 +39,24 @@ pub type Rx1Offset = Ranged<0, 5>;
 /// An application's port, from 1 to 223 (TS001-1.0.4 §4.3.2).
 pub type Port = Ranged<1, 223>;
 
-/// The counter that a session's next downlink uses up, from 0 to 2^32, where 2^32 means that none
-/// is left.
+/// The counter of a session's next downlink, from 0 to 2^32. 2^32 means that no counter is left.
 pub type NextDown = Ranged<0, 4_294_967_296>;
 
-/// How many new uplinks of a device were accepted, from 0 to [`LAST_HEARD`].
+/// The number of new uplinks accepted from a device, from 0 to [`LAST_HEARD`].
 pub type UplinkCount = Ranged<0, LAST_HEARD>;
 
-/// Where the count of a device's uplinks ends: it stays there.
+/// The highest count of a device's uplinks: the count stays there.
 pub const LAST_HEARD: u64 = (1 << 63) - 1;
 
-/// The bytes that an application hands in, of any number.
+/// The bytes that an application hands in, of any length.
 pub type AskedBytes = Bytes<{ usize::MAX }>;
 
-/// How far the JoinNonces of a restored copy are raised, from 1 to 65,536.
+/// By how much the JoinNonces of a restored copy are raised, from 1 to 65,536.
 pub type GrantsSince = Ranged<1, 65_536>;
 
-/// How many gateways heard an uplink, from 1 to 32.
+/// The number of gateways that heard an uplink, from 1 to 32.
 pub type Copies = Ranged<1, 32>;
 
-/// The name by which an application knows an item that it queued.
+/// An application's own name for an item that it queued.
 #[derive(Clone, Copy, Debug, PartialEq, Eq)]
 pub struct Tag(pub u32);

@@ -12,14 +12,14 @@ use mac_commands::{are_queueable, fit15};
 use std::alloc::{AllocError, Global};
 use std::marker::Model;
 
-/// Whole MAC commands that an application may queue, LinkADRReq, DutyCycleReq and DevStatusReq
-/// (TS001-1.0.4 §5), one after another in at most 128 bytes. In contracts it is the list of the
+/// Whole MAC commands that an application may queue (LinkADRReq, DutyCycleReq and DevStatusReq,
+/// TS001-1.0.4 §5), one after another in at most 128 bytes. In contracts it is the list of the
 /// bytes.
 pub struct MacQueue {
     bytes: Vec<u8>,
 }
 
-// By hand, so that its proof is done once: a derived drop is proved anew wherever a value goes.
+// By hand, so that it is proved once: a derived drop is proved again at each use of the type.
 impl Drop for MacQueue {
     fn drop(self) {
         let Self { bytes: _ } = self;
@@ -51,8 +51,8 @@ impl MacQueue {
         }
     }
 
-    /// These bytes, where they are at most 128 and are whole commands that may be queued; else the
-    /// vector back.
+    /// These bytes, if they are at most 128 and are whole commands that may be queued; otherwise
+    /// the vector is returned as the error.
     pub fn new(bytes: Vec<u8>) -> Result<Self, Vec<u8>>
         ensures { MatchResult result
             (λ q. (q ≡ bytes.items) × (length bytes.items ≤ Self.MOST) × AreQueueable bytes.items)
@@ -66,7 +66,7 @@ impl MacQueue {
         }
     }
 
-    /// A copy of these bytes, in memory of its own.
+    /// A copy of these bytes in newly allocated memory.
     pub fn from_slice(alloc: Global, bytes: &[u8]) -> Result<Self, AllocError>
         requires few { length bytes.now ≤ Self.MOST }
         requires whole { AreQueueable bytes.now }
@@ -77,7 +77,8 @@ impl MacQueue {
         })
     }
 
-    /// Whether an application may queue these bytes: one or more whole commands. Takes no memory.
+    /// Whether an application may queue these bytes: they must be one or more whole commands. Takes
+    /// no memory.
     pub fn takes(bytes: &[u8]) -> bool
         ensures value { result ≡ may_queue bytes.now }
         ensures whole { IsTrue result ↔ ((bytes.now ≢ []) × AreQueueable bytes.now) }
@@ -85,7 +86,7 @@ impl MacQueue {
         !bytes.is_empty() && are_queueable(bytes)
     }
 
-    /// Adds whole commands at the end. After an `Err` the queue is as before.
+    /// Adds whole commands at the end. After an `Err` the queue is unchanged.
     pub fn append(&mut self, commands: &[u8]) -> Result<(), AllocError>
         requires room { length self.old + length commands.now ≤ Self.MOST }
         requires whole { may_queue commands.now ≡ true }
@@ -98,8 +99,8 @@ impl MacQueue {
         Ok(())
     }
 
-    /// How many bytes from the front, in whole commands, fit the room that is left of a downlink's
-    /// FOpts: as many as possible. Takes no memory.
+    /// How many bytes from the front fit the room that is left of a downlink's FOpts: the most, in
+    /// whole commands. Takes no memory.
     pub fn fitting(&self, room: u8) -> usize
         ensures value { result ≡ fitting_len self.now room }
         ensures within { result ≤ length self.now }
@@ -108,7 +109,7 @@ impl MacQueue {
         fit15(self.bytes.as_slice(), room)
     }
 
-    /// The commands that fit the room leave the front. Takes no memory.
+    /// Removes from the front the commands that fit the room. Takes no memory.
     pub fn leave(&mut self, room: u8)
         ensures { self.new ≡ drop (fitting_len self.old room) self.old }
     {

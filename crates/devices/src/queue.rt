@@ -15,12 +15,12 @@ pub struct Item {
     pub payload: Payload,
 }
 
-/// At most 16 items, the oldest first. In contracts it is the list of them.
+/// At most 16 items, the oldest first. In contracts it is the list of the items.
 pub struct ItemQueue {
     items: Vec<Item>,
 }
 
-// By hand, so that its proof is done once: a derived drop is proved anew wherever a value goes.
+// By hand, so that it is proved once: a derived drop is proved again at each use of the type.
 impl Drop for ItemQueue {
     fn drop(self) {
         let Self { items: _ } = self;
@@ -52,7 +52,7 @@ impl ItemQueue {
         }
     }
 
-    /// These items, where they are at most 16; else the vector back.
+    /// These items, if they are at most 16; otherwise the vector is returned as the error.
     pub fn new(items: Vec<Item>) -> Result<Self, Vec<Item>>
         ensures { MatchResult result
             (λ q. (length items.items ≤ Self.MOST) × (q ≡ items.items))
@@ -65,7 +65,7 @@ impl ItemQueue {
         }
     }
 
-    /// Adds an item at the end. After an `Err` the queue is as before.
+    /// Adds an item at the end. After an `Err` the queue is unchanged.
     pub fn push(&mut self, item: Item) -> Result<(), AllocError>
         requires { length self.old < Self.MOST }
         ensures ok { OnOk result (self.new ≡ self.old ++ item ∷ []) }
@@ -75,7 +75,7 @@ impl ItemQueue {
         Ok(())
     }
 
-    /// The oldest item, where one waits.
+    /// The oldest item, if one waits.
     pub fn first(&self) -> Option<&Item>
         ensures { MatchOption result (self.now ≡ [])
             (λ item. self.now ≡ item.now ∷ drop 1 self.now) }
@@ -83,7 +83,7 @@ impl ItemQueue {
         self.items.first()
     }
 
-    /// The oldest item leaves, where one waits. Takes no memory.
+    /// Removes and returns the oldest item, if one waits. Takes no memory.
     pub fn pop_first(&mut self) -> Option<Item>
         ensures item { MatchOption result (self.old ≡ []) (λ item. self.old ≡ item ∷ self.new) }
         ensures rest { self.new ≡ drop 1 self.old }

@@ -1,9 +1,9 @@
--- What is found in a list that lost some of its elements.
+-- What is found in a list after some of its elements were removed.
 use Rattle.std.proofs.Common.{◌≡◌, ◌≤◌, ◌<◌, ◌∷◌, List, [], None, Bool, true, false, refl, arith, sym, ◌∙◌, length}
 use Rattle.std.specs.List.{filter, find}
 use Rattle.std.proofs.lemmas.Bool.{false≢true}
 
--- nothing that is lost is looked for
+-- no removed element is one that is looked for
 pub found_still : {X : Type 0} (p q : X → Bool) → ((x : X) → p x ≡ true → q x ≡ true) → (xs : List X)
     → find p (filter q xs) ≡ find p xs
 found_still p q keeps [] = refl
@@ -15,7 +15,7 @@ found_still {X} p q keeps (x ∷ xs) = go (found_still p q keeps xs) (p x) (q x)
     go more false true e f = rw f (rw e more)
     go more false false e f = rw f (rw e more)
 
--- all that is looked for is lost
+-- every element that is looked for is removed
 pub found_no_more : {X : Type 0} (p q : X → Bool) → ((x : X) → p x ≡ true → q x ≡ false) → (xs : List X)
     → find p (filter q xs) ≡ None
 found_no_more p q loses [] = refl
@@ -27,7 +27,7 @@ found_no_more {X} p q loses (x ∷ xs) = go (found_no_more p q loses xs) (p x) (
     go more false true e f = rw f (rw e more)
     go more false false e f = rw f more
 
--- what is left are fewer, where something that is looked for was there
+-- fewer elements are left, if an element that is looked for was there
 pub fewer : {X : Type 0} (p q : X → Bool) → ((x : X) → p x ≡ true → q x ≡ false) → (xs : List X)
     → (length (filter q xs) ≤ length xs) × (¬ (find p xs ≡ None) → length (filter q xs) < length xs)
 fewer p q loses [] = (omega arith, λ some. absurd (some refl))

@@ -1,4 +1,4 @@
--- Links of gateways, once one was forgotten or added.
+-- Links of gateways, after one was removed or added.
 use Rattle.std.proofs.Common.{◌≡◌, ◌≢◌, ◌<◌, ◌++◌, ◌∷◌, ℕ, List, [], Option, Some, None, Bool, true, false, refl, ap, sym, ◌∙◌, length, nat_eq}
 use Rattle.std.specs.Prelude.{IsSome, is_some, slice_index_or}
 use Rattle.std.specs.List.{filter, find}
@@ -67,7 +67,8 @@ added_beside gateway other n differs linked = ap (option_map link) (find-append 
     go false e None = rw e refl
     go false e (Some l) = refl
 
--- a gateway whose link was forgotten, and who was added with another one, has this one, and nobody else has another
+-- a gateway whose link was removed, and which was added with another link, has this one, and no
+-- other gateway's link changes
 pub named : (old new : Directory) (gateway : Eui) (n : ℕ) (left : List LinkedGateway)
     → gateway_link gateway left ≡ None
     → ((other : Eui) → other ≢ gateway → gateway_link other left ≡ gateway_link other old.gateways.items)

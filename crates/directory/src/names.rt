@@ -1,4 +1,4 @@
-// Who is linked.
+// Which gateways and applications have links.
 ghost use Rattle.std.specs.Prelude.{◌≤◌, length, vec_capacity};
 
 use devices::Application;
@@ -6,10 +6,10 @@ use gateway_wire::Recipient;
 use lw_types::Eui;
 use std::alloc::{AllocError, Global};
 
-/// The most gateways that are linked.
+/// The most gateways that have links.
 pub const MOST_GATEWAYS: usize = 64;
 
-/// How many applications there are.
+/// The number of applications.
 pub const APPLICATIONS: usize = 16;
 
 /// A gateway, and the number of its link.
@@ -26,7 +26,8 @@ pub struct HeldName {
     link: usize,
 }
 
-/// A name that a link has left, where it had it still. Only [`Directory::leave`] makes it.
+/// A name that a link has left, and whether the link still had it. Only [`Directory::leave`] makes
+/// it.
 #[derive(Clone, Copy)]
 pub struct LeftName {
     held: HeldName,
@@ -36,14 +37,14 @@ pub struct LeftName {
 impl LeftName {
     ghost use Rattle.std.specs.Prelude.{◌≡◌};
 
-    /// Whose name it is.
+    /// The gateway or application with this name.
     pub fn name(&self) -> Recipient
         ensures { result ≡ self.now.held.name }
     {
         self.held.name
     }
 
-    /// Whether the link had it until then, so that no link has it now.
+    /// Whether the link had the name until then, so that no link has it now.
     pub fn is_free(&self) -> bool
         ensures { result ≡ self.now.is_free }
     {
@@ -51,20 +52,20 @@ impl LeftName {
     }
 }
 
-/// Which link each gateway and each application has, by the numbers of the links. A name has one
-/// link at most. What is told on a link goes through the ring of its number; but applications may
-/// have rings of their own, so that what they are told waits while they have no link.
+/// Which link each gateway and each application has, by the numbers of the links. A name has at
+/// most one link. What is sent on a link goes through the ring with the link's number. But
+/// applications may have rings of their own, so that their lines wait while they have no link.
 #[derive(Drop)]
 pub struct Directory {
     gateways: Vec<LinkedGateway>,
     applications: [Option<usize>; APPLICATIONS],
-    // The ring of application 0, behind which those of the others come.
+    // The ring of application 0; those of the others come after it.
     first_ring: Option<u16>,
     ghost few: { length gateways.items ≤ 64 },
     ghost room: { 64 ≤ vec_capacity gateways },
 }
 
-/// Sixty-four other gateways are linked.
+/// Sixty-four other gateways have links.
 #[derive(Clone, Copy, Debug, PartialEq, Eq)]
 pub struct Full;
 
@@ -77,8 +78,8 @@ impl Directory {
     ghost use Rattle.directory.specs.Linked.{may_greet, may_take_over, IsHeld, IsLinked};
     ghost use Rattle.directory.specs.Linked.{IsUnlinked};
 
-    /// Nobody is linked, and applications have rings of their own from this one on, if there is
-    /// one. All the memory that it ever takes is taken here.
+    /// A directory without links. If `first_ring` is given, applications have rings of their own,
+    /// from that one on. All the memory that it ever needs is taken here.
     pub fn new(alloc: Global, first_ring: Option<u16>) -> Result<Self, AllocError>
         ensures links { IfOk result
             (λ directory. (name : Recipient) → link_of directory name ≡ None) }
@@ -91,8 +92,9 @@ impl Directory {
         })
     }
 
-    /// Gives a link the name of whoever greets on it, where no link has this name, and, of a
-    /// gateway, fewer than 64 are linked. Else nothing is changed.
+    /// Gives a link the name with which a gateway or an application greets, if no link has this
+    /// name and, for a gateway, fewer than 64 have links. Returns whether it did; otherwise nothing
+    /// is changed.
     pub fn greet(&mut self, name: &Recipient, link: usize) -> bool
         ensures granted { result ≡ may_greet self.old name.now }
         ensures named { MatchBool result (IsLinked self.old name.now link self.new)
@@ -101,8 +103,9 @@ impl Directory {
         self.link_of(name).is_none() && self.take_over(name, link).is_ok()
     }
 
-    /// Gives a link the name of whoever greets on it, and answers the link that had it until now.
-    /// `Full` for one gateway more where 64 others are linked, and then nothing is changed.
+    /// Gives a link the name with which a gateway or an application greets, and returns the link
+    /// that had the name until now. Returns `Full` for one more gateway if 64 others have links;
+    /// then nothing is changed.
     pub fn take_over(
         &mut self,
         name: &Recipient,
@@ -145,7 +148,7 @@ impl Directory {
         }
     }
 
-    /// Takes a name away from a link that has ended, where the link has it still. A name that went
+    /// Takes a name away from a link that has ended, if the link still has it. A name that went
     /// over to another link stays there.
     pub fn leave(&mut self, held: HeldName) -> LeftName
         ensures held { result.held ≡ held }
@@ -160,7 +163,7 @@ impl Directory {
         LeftName { held, is_free }
     }
 
-    // Takes a name away from the link that has it, if one has.
+    // Takes a name away from its link, if it has one.
     fn forget(&mut self, name: &Recipient)
         ensures { IsUnlinked self.old name.now self.new }
     {
@@ -172,7 +175,7 @@ impl Directory {
         }
     }
 
-    // Takes the name of a gateway away from the link that has it, if one has.
+    // Takes the name of a gateway away from its link, if it has one.
     fn forget_gateway(&mut self, gateway: Eui)
         ensures none { gateway_link gateway self.new.gateways.items ≡ None }
         ensures others { (other : Eui) → other ≢ gateway
@@ -186,22 +189,22 @@ impl Directory {
         self.gateways.retain(|linked| linked.gateway.0 != gateway.0);
     }
 
-    /// The gateways that are linked.
+    /// The gateways that have links.
     pub fn gateways(&self) -> &[LinkedGateway]
         ensures { result.now ≡ self.now.gateways.items }
     {
         self.gateways.as_slice()
     }
 
-    /// The link of each application, by their numbers.
+    /// The link of each application, by the applications' numbers.
     pub fn applications(&self) -> &[Option<usize>]
         ensures { result.now ≡ self.now.applications }
     {
         &self.applications
     }
 
-    /// The ring through which a gateway or an application is told: that of its link, or, of an
-    /// application, its own where applications have rings of their own.
+    /// The ring through which a gateway or an application is sent to: that of its link, or an
+    /// application's own, if applications have rings of their own.
     pub fn ring_of(&self, name: &Recipient) -> Option<usize>
         ensures { result ≡ ring_of self.now name.now }
     {
@@ -213,7 +216,7 @@ impl Directory {
         }
     }
 
-    /// The link on which a gateway or an application is told.
+    /// The link of a gateway or an application.
     pub fn link_of(&self, name: &Recipient) -> Option<usize>
         ensures { result ≡ link_of self.now name.now }
     {

@@ -4,7 +4,7 @@ use Rattle.std.proofs.lemmas.List.{get_or-take, get_or-drop, take_at, drop_at, d
 use Rattle.std.proofs.lemmas.Grind.{common_steps}
 use Rattle.disk.specs.State.{State, IsPermitted, IsWrite, IsTorn}
 
--- lists with one front, or one rest, have the same elements there
+-- lists with the same beginning, or the same rest, have the same elements there
 earlier : (xs ys : List ℕ) (at i : ℕ) → take at xs ≡ take at ys → i < at → get_or xs i 0 ≡ get_or ys i 0
 earlier xs ys at i same below = sym (get_or-take at xs i 0 below) ∙ ap (λ (l : List ℕ). get_or l i 0) same ∙ get_or-take at ys i 0 below
 
@@ -20,7 +20,7 @@ later xs ys at i same above =
 not_both : (b : Bool) → b ≡ true → b ≡ false → ⊥
 not_both b set clear = cc (set, clear)
 
--- an image of a disk is one of it after a write that failed
+-- an image of a disk is also one after a failed write
 place_of : (at n i : ℕ) → ((i < at) ⊎ (at + n ≤ i)) ⊎ ((at ≤ i) × (i < at + n))
 place_of at n i = grind arith
 

@@ -3,7 +3,7 @@ use Rattle.disk.specs.declared.fuse.Fuse.{Fuse}
 use Rattle.disk.specs.Outlook.{Outlook}
 use Rattle.disk.specs.Outlook.Outlook.{Unknown, AllSucceed, FailsAfter}
 
--- what a fuse foresees: nothing fails, or the call after this many
+-- what a fuse foresees: no failure, or one after this number of calls
 abbrev pub outlook_from : Option ℕ → Outlook
 outlook_from None = AllSucceed
 outlook_from (Some n) = FailsAfter n

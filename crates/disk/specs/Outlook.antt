@@ -1,7 +1,7 @@
--- Which calls of a disk fail, and what is known of that beforehand.
+-- Which calls of a disk fail, and what is known of that before they are made.
 use Rattle.std.specs.Prelude.{◌≡◌, ◌+◌, ℕ, zero, suc, Bool, false, IsTrue, Result, MatchResult}
 
--- what is known of the answers of the coming calls
+-- what is known about whether the coming calls succeed
 pub data Outlook : Type 0 where
   -- nothing
   Unknown : Outlook
@@ -23,6 +23,6 @@ IsArmed Unknown = ⊥
 IsArmed AllSucceed = ⊥
 IsArmed (FailsAfter n) = Unit {0}
 
--- an error comes exactly where the call was counted as a failure
+-- an error is returned exactly if the call was counted as a failure
 abbrev pub HasCause : {T E : Type 0} → ℕ → ℕ → Result T E → Type 0
 HasCause before now result = MatchResult result (λ _. now ≡ before) (λ _. now ≡ before + 1)

@@ -13,12 +13,12 @@ pub record State : Type 0 where
 abbrev pub NothingOpen : State → Type 0
 NothingOpen state = (i : ℕ) → state.is_open i ≡ false
 
--- a crash may leave this image: any byte where a position is open, and the content everywhere else
+-- a crash may leave this image: any byte at an open position, and the content everywhere else
 pub record IsPermitted (state : State) (image : List ℕ) : Type 0 where
   pub same_length : length image ≡ length state.content
   pub kept : (i : ℕ) → state.is_open i ≡ false → slice_index image i ≡ slice_index state.content i
 
--- whatever a crash leaves now has P
+-- each image that a crash may leave now has P
 abbrev pub EveryImage : State → (List ℕ → Type 0) → Type 0
 EveryImage state P = (image : List ℕ) → IsPermitted state image → P image
 
@@ -26,7 +26,7 @@ EveryImage state P = (image : List ℕ) → IsPermitted state image → P image
 abbrev pub bytes_after_write : List ℕ → ℕ → List ℕ → List ℕ
 bytes_after_write old at bytes = take at old ++ bytes ++ drop (at + length bytes) old
 
--- any bytes at n positions from `at` on, and the old ones elsewhere
+-- any bytes at n positions from `at` on, and the old bytes elsewhere
 pub record IsTorn (at n : ℕ) (old new : List ℕ) : Type 0 where
   pub same_length : length new ≡ length old
   pub before : take at new ≡ take at old

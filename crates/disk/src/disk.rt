@@ -24,26 +24,27 @@ impl Error for DeviceFailed {}
 
 /// A disk of a fixed length, in bytes. Nobody else writes to it.
 ///
-/// A write opens its positions, also where it fails, and a sync that succeeds closes all. A crash
-/// leaves any bytes at the open positions and the content at all others.
+/// A write opens its positions, even if it fails. A sync that succeeds closes all positions. A
+/// crash leaves any bytes at the open positions and the content at all others.
 pub trait Disk {
     /// What the disk holds, and which of its positions are open.
     ghost state: { Self → State };
 
-    /// How many calls have failed.
+    /// The number of calls that have failed.
     ghost failures: { Self → ℕ };
 
-    /// What is known of the answers of the coming calls.
+    /// What is known about whether the coming calls will succeed.
     ghost outlook: { Self → Outlook };
 
-    /// The disks of this type do what this trait says of bytes.
+    /// That disks of this type do with their bytes what this trait says.
     ghost honest: { Type 0 };
 
     /// The number of bytes.
     fn len(&self) -> u64
         ensures { result ≡ length (state self.now).content };
 
-    /// Fills the buffer with the bytes from a position on. After an error the buffer has any bytes.
+    /// Fills the buffer with the bytes that begin at a position. After an error the buffer may hold
+    /// any bytes.
     fn read_at(&mut self, at: u64, buffer: &mut [u8]) -> Result<(), DeviceFailed>
         requires { at + length buffer.old ≤ length (state self.old).content }
         ensures bytes { honest
@@ -54,8 +55,8 @@ pub trait Disk {
         ensures cause { HasCause (failures self.old) (failures self.new) result }
         ensures foreseen { IsForeseen (outlook self.old) (is_ok result) (outlook self.new) };
 
-    /// Writes the bytes from a position on, and opens their positions. After an error any bytes may
-    /// stand there.
+    /// Writes the bytes from a position on, and opens their positions. After an error these
+    /// positions may hold any bytes.
     fn write_at(&mut self, at: u64, bytes: &[u8]) -> Result<(), DeviceFailed>
         requires { at + length bytes.now ≤ length (state self.old).content }
         ensures written { honest
@@ -66,7 +67,7 @@ pub trait Disk {
         ensures cause { HasCause (failures self.old) (failures self.new) result }
         ensures foreseen { IsForeseen (outlook self.old) (is_ok result) (outlook self.new) };
 
-    /// Closes every open position. After an error all of them are open still.
+    /// Closes every open position. After an error all of them are still open.
     fn sync(&mut self) -> Result<(), DeviceFailed>
         ensures settled { honest
             → OnOk result (IsSettledAt (state self.old).content (state self.new)) }

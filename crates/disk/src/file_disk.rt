@@ -9,17 +9,17 @@ use std::path::Path;
 use std::rt::Files;
 use std::{fs, io};
 
-// How many bytes of a new file are written at a time.
+// The number of bytes of a new file that are written at a time.
 const PIECE: usize = 65536;
 
-/// A disk in a file of the system, of the length that the file had when it was opened. It holds the
-/// file's lock until it is dropped or its process ends, so no other `FileDisk` has the file, in
-/// this process or another one.
+/// A disk in a file of the system. Its length is the one that the file had when it was opened. It
+/// holds the file's lock until it is dropped or its process ends, so no other `FileDisk`, of this
+/// process or another one, has the file.
 ///
-/// That a file keeps what was synced, and nobody else writes to it, is a premise and no contract:
-/// all that is promised is the length, and that a call answers `DeviceFailed` exactly where it is
-/// counted as a failure. After a sync that failed, Linux may take pages that it couldn't write for
-/// written; so the disk has to be looked at before the file is opened again.
+/// Two things are premises and no contract: the file keeps what was synced, and nobody else writes
+/// to it. The contracts promise only the length, and that a call returns `DeviceFailed` exactly if
+/// it is counted as a failure. After a failed sync Linux may treat pages that it couldn't write as
+/// written, so check the disk before you open the file again.
 #[derive(Drop)]
 pub struct FileDisk {
     file: File,
@@ -28,10 +28,10 @@ pub struct FileDisk {
 }
 
 impl FileDisk {
-    /// Makes a file of so many zeros that its owner alone may read and write, and syncs it and its
-    /// folder. All its bytes are written, so that no later write needs a block of the file system.
-    /// Fails where the path exists; where anything fails behind that, the file is removed again.
-    /// Costs by the length.
+    /// Makes a file of this number of zeros that only its owner may read and write. Syncs the file
+    /// and its folder. All its bytes are written, so no later write needs a new block of the file
+    /// system. Fails if the path exists. If anything fails after that, the file is removed again.
+    /// The cost grows with the length.
     pub fn create<R: Files<File = File>>(rt: &R, path: &str, len: u64) -> io::Result<Self> {
         let file = OpenOptions::new()
             .read(true)
@@ -48,8 +48,8 @@ impl FileDisk {
         }
     }
 
-    /// Opens the file of a store. Fails where there is none, where it may not be read and written,
-    /// and as `WouldBlock` where another `FileDisk` has it.
+    /// Opens the file of a store. Fails if there is none, or if it may not be read and written.
+    /// Fails as `WouldBlock` if another `FileDisk` has it.
     pub fn open<R: Files<File = File>>(rt: &R, path: &str) -> io::Result<Self> {
         let file = OpenOptions::new().read(true).write(true).open(rt, path)?;
         file.try_lock()?;
@@ -65,8 +65,8 @@ impl FileDisk {
         }
     }
 
-    // Counts a call that failed. The 2^64th would be passed over: a store makes no call behind its
-    // first one.
+    // Counts a call that failed. The 2^64th failure would not be counted, but a store makes no call
+    // after its first failed one.
     fn counted(&mut self, outcome: io::Result<()>) -> Result<(), DeviceFailed>
         ensures cause { HasCause self.old.failures self.new.failures result }
         ensures told { self.old.failures + 1 < 2 ^ 64 → is_ok result ≡ is_ok outcome }
@@ -104,7 +104,7 @@ fn fill<R: Files<File = File>>(rt: &R, file: &File, path: &str, len: u64) -> io:
 impl Disk for FileDisk {
     ghost use Rattle.disk.specs.Outlook.Outlook.{Unknown};
 
-    // What a file really holds is in no contract.
+    // No contract says what a file really holds.
     ghost state = { λ disk. record {
       content = replicate disk.len 0;
       synced = replicate disk.len 0;

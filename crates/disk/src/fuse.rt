@@ -8,7 +8,7 @@ use crate::DeviceFailed;
 
 #[derive(Drop)]
 pub struct Fuse {
-    // How many calls succeed before the one that fails.
+    // The number of calls that succeed before the one that fails.
     left: Option<u64>,
     failures: u64,
     ghost countable: { ForSome left (λ _. failures + 1 < 2 ^ 64) },
@@ -27,7 +27,7 @@ impl Fuse {
         }
     }
 
-    /// Makes the nth call from now fail, while failures can be counted.
+    /// Makes the nth call from now fail, unless no more failures can be counted.
     pub fn arm(&mut self, n: u64)
         requires { 0 < n }
         ensures armed { failures_of self.old + 1 < 2 ^ 64
@@ -41,7 +41,7 @@ impl Fuse {
         };
     }
 
-    /// One call: whether it may go on.
+    /// Counts one call down. Returns whether it may go on.
     pub fn burn(&mut self) -> Result<(), DeviceFailed>
         ensures cause { HasCause (failures_of self.old) (failures_of self.new) result }
         ensures foreseen { IsForeseen (outlook_of self.old) (is_ok result) (outlook_of self.new) }

@@ -1,16 +1,16 @@
-//! What follows from a disk's definitions alone. The functions do nothing: their contracts are the
-//! laws.
+//! What follows from a disk's definitions alone. These functions do nothing: their contracts are
+//! the laws.
 ghost use Rattle.std.specs.Prelude.{◌≡◌, ◌≤◌, ◌+◌, ℕ, List, length};
 ghost use Rattle.disk.specs.State.{State, NothingOpen, EveryImage, IsPermitted, IsSettledAt};
 ghost use Rattle.disk.specs.State.{IsTorn, IsWrite};
 
-/// Where nothing is open, a crash leaves the content.
+/// If nothing is open, a crash leaves the content.
 pub fn settled_disk_keeps_its_content()
     ensures { (state : State) → NothingOpen state
         → EveryImage state (λ image. image ≡ state.content) }
 {}
 
-/// Where nothing was open before one write, a crash leaves the content from before it, torn in the
+/// If nothing was open before one write, a crash leaves the content from before it, torn in the
 /// write's range.
 pub fn one_write_tears_its_range()
     ensures { (at n : ℕ) (before after : State) → NothingOpen before → IsWrite at n before after
@@ -18,8 +18,8 @@ pub fn one_write_tears_its_range()
 {}
 
 /// What a crash may leave after a write is what it might have left before, torn in the write's
-/// range. So what holds of every image before, and outlives such a tear, holds of every image
-/// after: also where earlier writes are open.
+/// range. So if something holds for every image before, and survives such a tear, it holds for
+/// every image after. This is so even if earlier writes are open.
 pub fn a_write_tears_an_image()
     ensures { (at n : ℕ) (before after : State) → at + n ≤ length before.content
         → IsWrite at n before after
@@ -27,9 +27,9 @@ pub fn a_write_tears_an_image()
         × IsTorn at n was image) }
 {}
 
-/// A cut in the midst of a call leaves what a crash may leave where that call failed: before a
-/// write or behind it, or before a sync. So what holds of every image after a failed call holds of
-/// what is left at any moment in it.
+/// A crash in the middle of a call leaves what a crash may leave if that call fails: before or
+/// after a write, or before a sync. So what holds for every image after a failed call holds for
+/// what is left at any moment during it.
 pub fn a_cut_is_a_failed_call()
     ensures before { (at n : ℕ) (before failed : State) → IsWrite at n before failed
         → EveryImage before (IsPermitted failed) }

@@ -1,6 +1,7 @@
-//! A disk as a store sees it: bytes of a fixed length, of which a crash may change those written
-//! since the last sync, and calls that may fail. `MemDisk` is such a disk in memory, with crashes
-//! and failures on demand; `FileDisk` is a file, of which that is a premise.
+//! A disk as a store sees it: a fixed number of bytes. A crash may change the bytes that were
+//! written since the last sync, and each call may fail. `MemDisk` is such a disk in memory, with
+//! crashes and failures on demand. `FileDisk` is a file; that it behaves like such a disk is a
+//! premise.
 #![tactic(auto)]
 
 mod disk;

@@ -11,15 +11,15 @@ use crate::fuse::Fuse;
 use crate::{DeviceFailed, Disk, Image, Sim, span};
 use std::alloc::{AllocError, Global};
 
-/// A disk in memory. Each call but `new` costs what it touches, and takes no memory; a sync and a
-/// crash touch the bytes between the lowest and the highest position written since the last of
-/// them.
+/// A disk in memory. Calls other than `new` take time for what they touch, and no memory. A sync
+/// and a crash touch the bytes between the lowest and the highest position written since the last
+/// of them.
 #[derive(Drop)]
 pub struct MemDisk {
     content: Vec<u8>,
     // The bytes of the last good sync.
     synced: Vec<u8>,
-    // Which positions were written since then: none outside of low..high.
+    // Which positions were written since then. All of them lie in low..high.
     marks: Vec<bool>,
     low: usize,
     high: usize,
@@ -30,7 +30,7 @@ pub struct MemDisk {
 impl MemDisk {
     ghost use Rattle.disk.specs.MemDisk.{state_of, disk_outlook, disk_failures};
 
-    /// A disk that holds these bytes, all of them synced, and whose calls succeed.
+    /// A disk that holds these bytes, all of them synced. Its calls succeed.
     pub fn new(alloc: Global, content: Vec<u8>) -> Result<Self, AllocError>
         ensures settled { IfOk result (λ disk. IsSettledAt content.items (state_of disk)) }
         ensures failures { IfOk result (λ disk. disk_failures disk ≡ 0) }
@@ -48,7 +48,7 @@ impl MemDisk {
         })
     }
 
-    /// The bytes that it holds now.
+    /// The bytes that the disk holds now.
     pub fn content(&self) -> &[u8]
         ensures { result.now ≡ (state_of self.now).content }
     {
@@ -76,7 +76,7 @@ impl MemDisk {
         }
     }
 
-    // Makes the content the synced bytes, and closes all positions.
+    // Makes the content the synced bytes and closes all positions.
     fn settle(&mut self)
         ensures settled { IsSettledAt (state_of self.old).content (state_of self.new) }
         ensures outlook { disk_outlook self.new ≡ disk_outlook self.old }

@@ -7,7 +7,7 @@ ghost use Rattle.disk.specs.Tracking.{state_from};
 
 use crate::Image;
 
-/// Fills the buffer with the bytes from a position on.
+/// Fills the buffer with the bytes that begin at a position.
 pub fn read(source: &[u8], at: usize, buffer: &mut [u8])
     requires { at + length buffer.old ≤ length source.now }
     ensures { buffer.new ≡ take (length buffer.old) (drop at source.now) }
@@ -47,7 +47,7 @@ pub fn mark(marks: &mut [bool], from: usize, to: usize, value: bool)
     marks[from..to].fill(value);
 }
 
-/// Puts the bytes of a crash's image at the positions of one part that are marked.
+/// Puts the bytes of a crash's image at the marked positions of one part.
 pub fn crash(
     content: &mut [u8],
     synced: &[u8],

@@ -27,7 +27,7 @@ item_payload addr c (Some item) =
       frm_payload = crypted_payload c.session.app_skey.0 Down addr.0 c.next_down item.payload;
     })
 
--- the frame under the session's next counter, of which it has the low 16 bits; ADR is never set
+-- the frame with the low 16 bits of the session's next counter; ADR is never set
 abbrev pub frame_with : Mic → DevAddr → CurrentSession → DownlinkFields → DataFrame
 frame_with mic addr c fields =
     record {
@@ -39,7 +39,7 @@ frame_with mic addr c fields =
       mic = mic;
     }
 
--- what the MIC is made of: all of the frame but the MIC
+-- what the MIC is made of: all of the frame except the MIC
 abbrev pub message_bytes : DevAddr → CurrentSession → DownlinkFields → List ℕ
 message_bytes addr c fields = data_mic_input (frame_with (record { 0 = [] }) addr c fields)
 

@@ -1,4 +1,4 @@
--- A device is answered in the receive windows of its uplink (TS001-1.0.4 §3.3, §4.3.1).
+-- Answers to a device in the receive windows of its uplink (TS001-1.0.4 §3.3, §4.3.1).
 use Rattle.std.specs.Prelude.{ℕ, ◌+◌, ◌==◌, ◌^◌, ◌||◌, Bool, true, nat_le, if◌then◌else◌, List, []}
 use Rattle.std.specs.Prelude.{◌∷◌, length, Option, Some, None}
 use Rattle.lw_types.specs.declared.identifiers.DevAddr.{DevAddr}
@@ -25,13 +25,13 @@ use Rattle.downlinks.specs.Frame.{DownlinkFields, sent_frame}
 
 -- ---- how it is sent
 
--- RX2 takes a MACPayload of at most 59 bytes, which stands between an MHDR of one byte and a MIC of
--- four
+-- RX2 takes a MACPayload of at most 59 bytes. A frame has an MHDR of one byte before it and a MIC
+-- of four after it
 abbrev pub windows_for : List ℕ → ReceiveWindows
 windows_for frame = if nat_le (length frame) (1 + 59 + 4) then Rx1OrRx2 else Rx1
 
--- by the gateway that heard the uplink best, in RX1 at the uplink's frequency, or a second later in
--- RX2
+-- a downlink by the gateway that heard the uplink best, in RX1 at the uplink's frequency, or a
+-- second later in RX2
 abbrev pub downlink : DevAddr → Device → CurrentSession → Hearing → DownlinkFields → Downlink
 downlink addr d c best fields =
     let bytes = spelling (DataFrame (sent_frame addr c fields)) in
@@ -56,18 +56,18 @@ abbrev pub awaited_by : Option Item → Option Tag → Option Tag
 awaited_by None awaited = awaited
 awaited_by (Some item) awaited = if item.confirmed then Some item.tag else awaited
 
--- the record of a device after a downlink, which uses its FCntDown up
+-- the record of a device after a downlink, which uses up its FCntDown
 abbrev pub device_after_downlink : Device → CurrentSession → Option Item → Device
 device_after_downlink d c item =
     record d { activation = with_down_used d.activation c; awaited = awaited_by item d.awaited }
 
--- a downlink of the device with these queues left
+-- a downlink of the device, whose queues are left like this
 abbrev pub sending_step : DevAddr → Device → CurrentSession → Hearing → DownlinkFields → DeviceStep
 sending_step addr left c best fields =
     device_step (device_after_downlink left c fields.item)
     (Down (name_of left c) c.next_down (downlink addr left c best fields) ∷ [])
 
--- a downlink where the session has a counter left; else nothing is sent, nothing leaves a queue,
+-- a downlink, if the session has a counter left; otherwise nothing is sent, nothing leaves a queue,
 -- and this is reported
 abbrev pub sending_or_spent_step : DevAddr → Device → Device → CurrentSession → Hearing
     → DownlinkFields → DeviceStep
@@ -75,11 +75,11 @@ sending_or_spent_step addr d left c best fields =
     if c.next_down == 2 ^ 32 then device_step d
     (report_effects d (Spent c.session.join_nonce)) else sending_step addr left c best fields
 
--- FPending: whether more waits for the device (§4.3.1.4)
+-- FPending: whether more downlinks wait for the device (§4.3.1.4)
 abbrev pub more_waits : Device → Bool
 more_waits d = has_any d.mac_queue || has_any d.items
 
--- FOpts, the item that goes, and the bits ACK and FPending
+-- FOpts, the item that is sent, and the bits ACK and FPending
 abbrev pub downlink_fields : List ℕ → Option Item → Bool → Bool → DownlinkFields
 downlink_fields opts going ack pending =
     record { f_opts = opts; item = going; ack = ack; f_pending = pending }
@@ -90,7 +90,7 @@ downlink_fields opts going ack pending =
 abbrev pub address : ℕ → ℕ → CurrentSession → DevAddr
 address net_id slot c = dev_addr net_id slot c.session.join_nonce
 
--- a new uplink in this session is answered, where a downlink is due
+-- a new uplink in this session is answered, if a downlink is due
 abbrev pub answer_step : ℕ → ℕ → Device → CurrentSession → Demand → DeviceStep
 answer_step net_id slot d c asked =
     if is_downlink_due d asked

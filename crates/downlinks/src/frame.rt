@@ -12,20 +12,20 @@ use lw_types::{DevAddr, Direction, LONGEST_PAYLOAD, Payload, PhyPayload, Refusal
 use phy_payload::{Contents, Control, DataFrame, FOpts, Mic, PortPayload, encode_mic_input};
 use std::alloc::Global;
 
-/// What a downlink says besides its counter.
+/// The parts of a downlink, except its counter.
 #[derive(Drop)]
 pub(crate) struct DownlinkFields {
     pub(crate) f_opts: FOpts,
     pub(crate) item: Option<Item>,
     /// The uplink was confirmed.
     pub(crate) ack: bool,
-    /// More waits for the device.
+    /// More downlinks wait for the device.
     pub(crate) f_pending: bool,
 }
 
 impl DownlinkFields {
-    /// The frame of these fields, under the session's keys and its next counter. For want of memory
-    /// it is refused as `OutOfMemory`.
+    /// The frame of these fields, under the session's keys and its next counter. If memory runs
+    /// out, it is refused as `OutOfMemory`.
     #[tactic(auto, unfolding(crate::specs::Frame::sent_frame, phy_payload::specs::Frame::spelling))]
     pub(crate) fn into_phy_payload(
         self,
@@ -49,7 +49,7 @@ impl DownlinkFields {
         Ok(PhyPayload::new(bytes).unwrap())
     }
 
-    // The frame with zeros in the place of its MIC.
+    // The frame with zeros in place of its MIC.
     fn into_frame(self, addr: DevAddr, current: &CurrentSession) -> DataFrame
         requires left { current.now.next_down < 2 ^ 32 }
         requires short { length self.f_opts + item_len self.item ≤ LONGEST_PAYLOAD }

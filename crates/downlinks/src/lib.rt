@@ -1,4 +1,4 @@
-//! Downlinks: what the network sends a class A device in the receive windows of an uplink
+//! Downlinks: what the network sends to a class A device in the receive windows of an uplink
 //! (TS001-1.0.4 §3.3, §4.3).
 #![tactic(auto)]
 

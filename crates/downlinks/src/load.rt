@@ -21,17 +21,17 @@ const LINK_CHECK_ANS: u8 = 0x02;
 pub struct Demand {
     /// The uplink is confirmed.
     pub confirmed: bool,
-    /// The device wants to know whether it is still heard (TS001-1.0.4 §4.3.1.1).
+    /// The device asks whether it is still heard (TS001-1.0.4 §4.3.1.1).
     pub adr_ack_req: bool,
     /// LinkCheckReq is among the uplink's MAC commands.
     pub link_check: bool,
     /// The copy that was heard best.
     pub best: Hearing,
-    /// How many gateways heard the uplink.
+    /// The number of gateways that heard the uplink.
     pub copies: Copies,
 }
 
-/// What a downlink takes with it: FOpts, and the first item where it fits.
+/// What a downlink carries: FOpts, and the first item if it fits.
 #[derive(Drop)]
 pub(crate) struct Load {
     pub(crate) f_opts: FOpts,
@@ -39,7 +39,8 @@ pub(crate) struct Load {
 }
 
 impl Load {
-    /// Takes out of a device's queues what goes. For want of memory it is refused as `OutOfMemory`.
+    /// Takes out of a device's queues what the downlink carries. If memory runs out, it is refused
+    /// as `OutOfMemory`.
     pub(crate) fn take(alloc: Global, device: &mut Device, asked: &Demand) -> Result<Self, Refusal>
         requires { IsReceivable asked.now.best.reception }
         ensures load { MatchResult result
@@ -72,7 +73,7 @@ pub(crate) fn is_downlink_due(device: &Device, asked: &Demand) -> bool
 }
 
 impl Demand {
-    // How many bytes of FOpts the network's own answers leave for MAC commands.
+    // How many bytes of FOpts are left for MAC commands after the network's own answers.
     fn room(&self) -> u8
         ensures { result ≡ 15 - length (own_answers self.now) }
     {
@@ -91,7 +92,7 @@ impl Demand {
         }
     }
 
-    // LinkCheckAns: Margin and GwCnt, which answer a LinkCheckReq.
+    // LinkCheckAns, with Margin and GwCnt: the answer to a LinkCheckReq.
     fn link_check_ans(&self) -> [u8; 3]
         requires { IsReceivable self.now.best.reception }
         ensures { result ≡ link_check_ans self.now }
@@ -106,7 +107,7 @@ impl Demand {
     }
 }
 
-// FOpts: the network's answers, and MAC commands behind them.
+// FOpts: the network's answers, then MAC commands.
 fn f_opts(alloc: Global, device: &Device, asked: &Demand) -> Result<FOpts, AllocError>
     requires { IsReceivable asked.now.best.reception }
     ensures { IfOk result (λ f_opts. f_opts ≡ f_opts_of device.now asked.now) }
@@ -126,8 +127,8 @@ fn f_opts_len(device: &Device, asked: &Demand) -> usize
     usize::from(15 - room) + device.mac_queue.fitting(room)
 }
 
-// Whether the oldest item goes: DevAddr, FCtrl and FCnt, which are 7 bytes, FOpts, FPort and the
-// payload are within the largest MACPayload of RX1.
+// Whether the oldest item fits: DevAddr, FCtrl and FCnt (7 bytes), FOpts, FPort and the payload
+// together must be within the largest MACPayload of RX1.
 fn first_item_goes(device: &Device, asked: &Demand) -> bool
     requires { IsReceivable asked.now.best.reception }
     ensures goes { result ≡ is_some (fitting_item device.now asked.now) }
@@ -148,7 +149,7 @@ fn first_item_goes(device: &Device, asked: &Demand) -> bool
     }
 }
 
-/// RX1 of the uplink that was heard so.
+/// RX1 of an uplink with this best copy.
 pub(crate) fn rx1_of(device: &Device, best: &Hearing) -> ReceiveWindow
     requires { IsReceivable best.now.reception }
     ensures frequency { result.frequency ≡ best.now.reception.frequency }

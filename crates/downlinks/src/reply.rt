@@ -1,4 +1,4 @@
-// A device is answered in the receive windows of its uplink (TS001-1.0.4 §3.3, §4.3.1).
+// Answers to a device in the receive windows of its uplink (TS001-1.0.4 §3.3, §4.3.1).
 ghost use Rattle.std.specs.Prelude.{◌≡◌, ◌≤◌, ◌<◌, ◌+◌, ◌^◌, ◌==◌, ◌++◌, length, Some, MatchResult};
 ghost use Rattle.lw_types.specs.declared.refusal.Refusal.TheVariants.{OutOfMemory};
 ghost use Rattle.devices.specs.Heard.{IsReceivable};
@@ -27,20 +27,20 @@ pub struct SessionAt {
     pub current: CurrentSession,
 }
 
-// What is sent, to a device that was heard so.
+// What is sent, and the copy of the uplink that was heard best.
 #[derive(Drop)]
 struct Reply {
     best: Hearing,
     fields: DownlinkFields,
 }
 
-/// A new uplink in this session is answered, where a downlink is due (TS001-1.0.4 §3.3, §4.3.1).
-/// What fits goes out of the device's queues, the counter of the session's downlinks is used up,
-/// and the frame is one more effect. Where the session has no counter left, that is reported, and
-/// the record stays as it is.
+/// Answers a new uplink in this session, if a downlink is due (TS001-1.0.4 §3.3, §4.3.1). What fits
+/// leaves the device's queues, the session's next downlink counter is used up, and the frame is
+/// added to the effects. If the session has no counter left, this is reported and the record stays
+/// as it is.
 ///
-/// For want of memory it is refused as `OutOfMemory`, and then the record may have lost what was to
-/// go.
+/// If memory runs out, it is refused as `OutOfMemory`. The record may then have lost what the
+/// downlink was to carry.
 pub fn answer(
     alloc: Global,
     device: &mut Device,
@@ -75,12 +75,11 @@ pub fn answer(
     send(alloc, device, effects, session, Reply { best, fields })
 }
 
-/// A confirmed uplink that comes again is acknowledged, and nothing else is sent (TS001-1.0.4
-/// §4.3.1.2): the counter of the session's downlinks is used up, and the frame is one more effect.
-/// Where the session has no counter left, its application is reported, and the record stays as it
-/// is.
+/// Acknowledges a confirmed uplink that comes again, and sends nothing else (TS001-1.0.4 §4.3.1.2).
+/// The session's next downlink counter is used up, and the frame is added to the effects. If the
+/// session has no counter left, this is reported to its application and the record stays as it is.
 ///
-/// For want of memory it is refused as `OutOfMemory`.
+/// If memory runs out, it is refused as `OutOfMemory`.
 pub fn acknowledge(
     alloc: Global,
     device: &mut Device,
@@ -118,7 +117,7 @@ fn is_spent(current: &CurrentSession) -> bool
     current.next_down.get() == 1 << 32
 }
 
-// It is reported that the session has no counter left.
+// Reports that the session has no counter left.
 fn tell_spent(
     device: &Device,
     effects: &mut Effects,
@@ -140,7 +139,7 @@ fn tell_spent(
     Ok(())
 }
 
-// The downlink is sent, and uses up the session's next counter.
+// Sends the downlink, which uses up the session's next counter.
 fn send(
     alloc: Global,
     device: &mut Device,
@@ -173,7 +172,7 @@ fn send(
     Ok(())
 }
 
-// By the gateway that heard the uplink best, in RX1 or a second later in RX2.
+// A downlink by the gateway that heard the uplink best, in RX1 or a second later in RX2.
 fn downlink(
     alloc: Global,
     device: &Device,
@@ -203,7 +202,7 @@ fn downlink(
     })
 }
 
-// The windows that the frame may be sent in. A MACPayload is five bytes shorter than its frame.
+// The windows in which the frame may be sent. A MACPayload is five bytes shorter than its frame.
 fn windows_for(frame: &PhyPayload) -> ReceiveWindows
     ensures { result ≡ windows_for frame.now }
 {
@@ -215,14 +214,14 @@ fn windows_for(frame: &PhyPayload) -> ReceiveWindows
     }
 }
 
-// FPending: whether more waits for the device.
+// FPending: whether more downlinks wait for the device.
 fn more_waits(device: &Device) -> bool
     ensures { result ≡ more_waits device.now }
 {
     !device.mac_queue.as_slice().is_empty() || !device.items.as_slice().is_empty()
 }
 
-// The tag that is awaited once the item is sent.
+// The tag that is awaited after the item was sent.
 fn awaited_by(item: &Option<Item>, awaited: Option<Tag>) -> Option<Tag>
     ensures { result ≡ awaited_by item.now awaited }
 {

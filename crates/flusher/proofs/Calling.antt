@@ -69,7 +69,7 @@ calls_then failures outlook old mid new (Ok x) first next = none_then failures o
 calls_then failures outlook old mid new (Err e) first (is, last) =
     (is, record { count = last.count ∙ ap (λ n. n + 1) first.count; armed = λ all. last.armed (first.unarmed all); failed = last.failed })
 
--- where none of the calls failed, a refused store is settled still
+-- if none of the calls failed, a refused store is still settled
 pub settled_still : {D : Type 0} {g : _} (state : D → State) (failures : D → ℕ) (outlook : D → Outlook) (old mid new : Store D g) (e : Refusal)
     → NoneFailed failures outlook old mid
     → IsUntouched state mid new ⊎ ((e ≡ DeviceFailed) × LastFailed failures outlook mid new)
@@ -149,7 +149,7 @@ not_begun true generation X r e was h = cc
 not_begun false generation X r e was (inl h) = inl h
 not_begun false generation X r e was (inr (is, less)) = inr (less, inl is)
 
--- it was begun, and its calls came
+-- it was begun, and its calls were made
 pub once_begun : {T U : Type 0} (failed : Bool) (generation : ℕ) (rough N untouched X : Type 0) (x : T) (r : Result U Refusal) → rough
     → MatchBool failed (Ok x ≡ Err Failed) (generation < LAST_GENERATION)
     → MatchResult r (λ _. N) (λ e. (e ≡ DeviceFailed) × X)

@@ -21,7 +21,7 @@ use Rattle.flusher.proofs.Living.{AreComposed}
 abbrev pub batches_of : List (Flight Decision) → List (List Decision)
 batches_of flights = map (λ flight. flight.batch) flights
 
--- a call leaves which they are
+-- a call doesn't change which batches these are
 pub batches_stay : (flights : List (Flight Decision)) → batches_of (all_succeeded flights) ≡ batches_of flights
 batches_stay [] = refl
 batches_stay (flight ∷ []) = refl
@@ -41,7 +41,7 @@ pub none_durable_behind : {T : Type 0} (behind : Option (UnderWay T)) (settled :
 none_durable_behind None settled = refl
 none_durable_behind (Some next) settled = none_durable next settled
 
--- nor is any after a call that failed
+-- nor is any of them after a call that failed
 pub failed_durable : {T : Type 0} (under_way : UnderWay T) → durable_in [] (all_failed (flights_in under_way)) ≡ []
 failed_durable (Begun phase along) = refl
 failed_durable (Written phase along) = refl
@@ -51,7 +51,7 @@ failed_durable (Following opened along following behind) = refl
 failed_durable (Paired phase along behind) = refl
 failed_durable (Checkpoint phase) = refl
 
--- then the oldest one is there at most
+-- then at most the oldest one is left
 pub left_first : {T : Type 0} (under_way : UnderWay T) (batch : List Decision) (rest : List (List Decision)) (kept : List Decision)
     → batches_of (flights_in under_way) ≡ batch ∷ rest → MayLeave [] (all_failed (flights_in under_way)) kept → (kept ≡ []) ⊎ (kept ≡ batch)
 left_first (Begun phase along) batch rest kept is left = inl left
@@ -97,7 +97,7 @@ rank_of (first ∷ second ∷ rest) = rank_of (second ∷ rest)
 
 -- ---- batches that were committed
 
--- the laws of sessions that this stands on
+-- the laws of sessions that this uses
 pub record FoldLaws : Type 0 where
   pub folded : AreFolded
   pub effects : (t : TableState) (ds : List Decision) → FitAll t ds → effects_of t (commands_of ds) ≡ effects_in ds
@@ -117,7 +117,7 @@ decisions_then (b ∷ batches) batch = ap (λ l. b ++ l) (decisions_then batches
 pub commits_none : (s : StoreState) → Commits s s []
 commits_none s = record { continues = record { fit = tt; numbered = tt }; table = refl; seq = omega arith }
 
--- one batch more is committed
+-- one more batch is committed
 pub commits_more : FoldLaws → (old s new : StoreState) (batches : List (List Decision)) (batch : List Decision) → Commits old s (batched_decisions batches)
     → IsLegalContinuation s.table s.seq batch → new.table ≡ with_decisions s.table batch → new.seq ≡ s.seq + length batch
     → Commits old new (batched_decisions (batches ++ batch ∷ []))

@@ -38,7 +38,7 @@ use Rattle.flusher.proofs.Making.{HasMade, made_all, made_within}
 
 -- ---- a call failed
 
--- the oldest batch under way, which isn't known then
+-- the oldest batch under way, of which it is then unknown whether it is left
 pub record IsTorn {F : Type 0} (gives : FeedGives F) (more : ℕ) (s : StoreState) (mid feed : F) (under_way : UnderWay Room) : Type 0 where
   pub torn : List Decision
   pub next : F
@@ -117,7 +117,7 @@ module _ {F : Type 0} (gives : FeedGives F) (more : ℕ) (s : StoreState) (mid h
   }
   torn_of (Checkpoint phase) some taken behind way = absurd (omega (arith, some))
 
--- why a batch wasn't committed, where another store has the same table and number
+-- why a batch wasn't committed, if another store has the same table and number
 pub why_not : (s t : StoreState) (batch : List Decision) (X Y : Type 0) (e : Refusal) → s.failed ≡ t.failed → s.table ≡ t.table → s.seq ≡ t.seq → (X → Y)
     → IsUncommitted s batch X e → IsUncommitted t batch Y e
 why_not s t batch X Y e failed table seq step is =

@@ -14,7 +14,7 @@ pub on_refused : {T E : Type 0} (r : Result T E) (e : E) (P : T → Type 0) (Q :
 on_refused (Ok x) e P Q h q = absurd h
 on_refused (Err y) e P Q h q = subst Q (sym h) q
 
--- where there are some
+-- if there are some
 pub on_some : (n : ℕ) (X Y : Type 0) → n ≢ 0 → Y → MatchBool (n == 0) X Y
 on_some n X Y some y = elim (eqb_tells n 0) [
   | inl (is, none) ↦ absurd (some none)

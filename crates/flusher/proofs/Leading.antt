@@ -66,7 +66,7 @@ module _ {C V : Type 0} (effects : V → List Effect) (call : C → V → C → 
         ),
       )
 
-  -- what is known there says something else too
+  -- what is known there implies something else too
   pub go_weaker : (here mid there : IsKnownOfLives) (p q : C) → ((lives : Lives) (t : TableState) (number : ℕ) → mid lives t number → there lives t number)
       → GoOnFrom effects call here mid p q → GoOnFrom effects call here there p q
   go_weaker here mid there p q weaker first t number lives led =
@@ -99,7 +99,7 @@ leaves_callable effects g t [] p q is h = subst (always_mut g) (sym is) h
 leaves_callable effects g t (batch ∷ batches) p q (v, (next, (all, (made, rest)))) h =
     leaves_callable effects g (fold_of t (commands_of batch)) batches next q rest (mut_next g p (v, tt) tt next next made refl h)
 
--- one chain more behind those that were made
+-- one more chain after those that were made
 pub chains_then : {D F C V : Type 0} (disk : Ghosts D) (gives : FeedGives F) (effects : V → List Effect) (call : C → V → C → Type 0) (most : ℕ)
     (old mid new : Store D disk) (p q r : F) (x y z : C) (answers : List (Result ℕ Refusal)) (answer : Result ℕ Refusal)
     → MakeChains disk gives effects call most old mid p q x y answers
@@ -126,7 +126,7 @@ chains_then disk gives effects call most old mid new p q r x y z (a ∷ answers)
 abbrev as_answer : ℕ → Result ℕ Refusal
 as_answer count = Ok count
 
--- the same of chains that had so many decisions
+-- the same of chains with these numbers of decisions
 pub counts_then : {D F C V : Type 0} (disk : Ghosts D) (gives : FeedGives F) (effects : V → List Effect) (call : C → V → C → Type 0) (most : ℕ)
     (old mid new : Store D disk) (p q r : F) (x y z : C) (counts : List ℕ) (count : ℕ)
     → MakeChains disk gives effects call most old mid p q x y (map (λ n. Ok n) counts)

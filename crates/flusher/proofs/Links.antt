@@ -39,7 +39,8 @@ pub record IsFlying {D : Type 0} (disk : Ghosts D) (old now : Store D disk) (und
   pub on_disk : disk.honest → IsSettled (store_state disk.state old) → IsOnDisk (store_state disk.state now) under_way
   pub generation : disk.honest → IsSettled (store_state disk.state old) → (store_state disk.state now).log.generation ≡ (store_state disk.state old).log.generation
 
--- what the feed was asked behind the batches that are under way: nothing, unless the gate is to be synced alone
+-- what the feed was asked after the batches that are under way: nothing, unless only the gate is to
+-- be synced
 abbrev pub IsBehind : {F : Type 0} → FeedGives F → ℕ → StoreState → F → F → UnderWay Room → Result (Unit {0}) Refusal → Type 0
 IsBehind gives more s here feed (GateWritten opened along) end =
     MatchResult end (λ _. NoneFollows gives more s opened here feed) (λ e. IsFollowRefusal gives more s opened here feed e)
@@ -133,7 +134,7 @@ no_durable (Following opened along following behind) is = is
 no_durable (Paired phase along behind) is = is
 no_durable (Checkpoint phase) is = is
 
--- each call is one less of those that are left
+-- each call reduces the number of those that are left by one
 pub rank_succeeded : (under_way : UnderWay Room) → 1 ≤ length (flights_in under_way) → rank_of (all_succeeded (flights_in under_way)) + 1 ≡ rank_of (flights_in under_way)
 rank_succeeded (Begun phase along) some = refl
 rank_succeeded (Written phase along) some = refl
@@ -147,7 +148,7 @@ pub rank_less : (under_way next : UnderWay Room) → 1 ≤ length (flights_in un
     → rank_of (flights_in next) + 1 ≡ rank_of (flights_in under_way)
 rank_less under_way next some is = ap (λ fs. rank_of fs + 1) is ∙ rank_succeeded under_way some
 
--- behind a durable batch none but the others are under way
+-- after a durable batch only the others are under way
 pub some_behind : (here there : StoreState) (under_way next : UnderWay Room) → 1 ≤ length (flights_in under_way)
     → checkpoint_calls there next ≡ checkpoint_calls here under_way - 1 → 1 ≤ length (flights_in next)
 some_behind here there under_way (Begun phase along) some calls = omega arith
@@ -206,7 +207,7 @@ module _ {D : Type 0} (disk : Ghosts D) (old now new : Store D disk) (under_way 
     module _ {F C V : Type 0} (gives : FeedGives F) (effects : V → List Effect) (step : C → V → C → Type 0) (most : ℕ)
         (before feed : F) (old_out out : C) (end : Result (Unit {0}) Refusal)
         (up_to : IsUpTo disk gives effects step most old now before feed old_out out under_way more count end) where
-      -- the one that the call was made on is no gate alone
+      -- the value on which the call was made isn't a gate alone
       pub none_behind : (feed ≡ up_to.here) × (end ≡ Ok tt)
       none_behind = by under_way e.flights up_to.behind
         where
@@ -239,7 +240,7 @@ module _ {D : Type 0} (disk : Ghosts D) (old now new : Store D disk) (under_way 
         behind = behind;
       }
 
-  -- the gate of the only batch under way was written, and the batch behind it begun
+  -- the gate of the only batch under way was written, and the batch after it begun
   module _ (opened : Opened) (along : Room) (e : IsNextCall disk now under_way (Ok (called.UnderWay (GateWritten opened along))) new)
       (call : IsOneCall disk.failures disk.outlook now new (Ok (called.UnderWay (GateWritten opened along))))
       {F C V : Type 0} (gives : FeedGives F) (effects : V → List Effect) (step : C → V → C → Type 0) (most : ℕ)
@@ -380,7 +381,7 @@ abbrev SecondIsBodySynced : List (Flight Decision) → Type 0
 SecondIsBodySynced (first ∷ second ∷ flights) = IsStageBodySynced second.stage
 SecondIsBodySynced flights = ⊥
 
--- behind a batch that is durable by a shared sync the feed wasn't asked yet
+-- after a batch that is durable by a shared sync the feed hasn't been asked yet
 pub pair_behind : {F : Type 0} (gives : FeedGives F) (more : ℕ) (s s' : StoreState) (here feed : F) (end : Result (Unit {0}) Refusal) (under_way next : UnderWay Room) (ds : List Decision)
     → flight Stage.Durable ds ∷ flights_in next ≡ all_succeeded (flights_in under_way) → 1 ≤ length (flights_in next)
     → IsBehind gives more s here feed under_way end → IsBehind gives more s' here feed next end
@@ -407,7 +408,7 @@ pair_behind gives more s s' here feed end under_way next ds is some behind = by 
     by (Paired phase along last) is behind = at next (subst SecondIsBodySynced (sym is) tt) behind
     by (Checkpoint phase) is behind = absurd (subst BeginsDurable is tt)
 
--- what is no gate alone
+-- what isn't a gate alone
 pub not_alone : {F : Type 0} (gives : FeedGives F) (more : ℕ) (s : StoreState) (at_feed feed : F) (end : Result (Unit {0}) Refusal) (next : UnderWay Room)
     → ((opened : Opened) (along : Room) → next ≢ GateWritten opened along) → (feed ≡ at_feed) × (end ≡ Ok tt) → IsBehind gives more s at_feed feed next end
 not_alone gives more s at_feed feed end (Begun phase along) other behind = behind
@@ -418,7 +419,7 @@ not_alone gives more s at_feed feed end (Following opened along following last) 
 not_alone gives more s at_feed feed end (Paired phase along last) other behind = behind
 not_alone gives more s at_feed feed end (Checkpoint phase) other behind = behind
 
--- each call is one less of those that are left, also where a batch is durable by it
+-- each call reduces the number of those that are left by one, even if a batch is durable by it
 pub rank_durable : (under_way next : UnderWay Room) (ds : List Decision) → flight Stage.Durable ds ∷ flights_in next ≡ all_succeeded (flights_in under_way)
     → 1 ≤ length (flights_in next) → rank_of (flights_in next) + 1 ≡ rank_of (flights_in under_way)
 rank_durable under_way next ds is some = by under_way is

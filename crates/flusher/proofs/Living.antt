@@ -152,7 +152,7 @@ closes composed lives t number s led image p = by (led.images image p)
         ap (λ u. fold_of u lives.torn) led.table ∙ sym (composed t lives.durable lives.torn) in
         inr (subst (λ n. HoldsTable (fold_of t (lives.durable ++ lives.torn)) n image) count (subst (λ u. HoldsTable u (s.seq + length lives.torn) image) table h))
 
--- what a crash left holds one of both
+-- what a crash left holds one of the two
 crashes : (lives : Lives) (t : TableState) (number : ℕ) (disk : State) (left : List ℕ) → AreOnDisk lives t number disk → IsPermitted disk left
     → (found : Bool) × (((lives_after t lives (Opened found)).torn ≡ []) × HoldsFold t number (lives_after t lives (Opened found)).durable left)
 crashes lives t number disk left are permitted = by (are left permitted)
@@ -188,7 +188,7 @@ refuses lives t number disk back are on image p =
       | inr h ↦ inr (was.1.1 (fold_of t (lives.durable ++ lives.torn)) (number + length (lives.durable ++ lives.torn)) h)
     ]
 
--- never since there were no store
+-- never because no store exists
 pub no_fault : (lives : Lives) (t : TableState) (number : ℕ) (disk : State) (left : List ℕ) (e : Refusal) → AreOnDisk lives t number disk
     → IsPermitted disk left → ¬ (IsFault left e)
 no_fault lives t number disk left e are permitted fault = elim (are left permitted) [

@@ -45,7 +45,7 @@ calls_at_least [] n is = omega arith
 calls_at_least (batch ∷ batches) n (inl none) = absurd (omega (arith, none))
 calls_at_least (batch ∷ batches) n (inr less) = less
 
--- with those that are left, four for the youngest batch, these are as many as are made in all
+-- with those that are left, four for the youngest batch, these are as many as are made in total
 pub record HasMade {D : Type 0} (disk : Ghosts D) (old now : Store D disk) (under_way : UnderWay Room) (most more : ℕ) : Type 0 where
   pub made : ℕ
   pub foreseen : HaveSucceeded made (disk.outlook (disk_of old)) (disk.outlook (disk_of now))
@@ -88,7 +88,7 @@ module _ {D : Type 0} (disk : Ghosts D) (old now new : Store D disk) (under_way 
         late = inr (omega (arith, less, few, long, some));
       }
 
-  -- and a batch was begun behind the one whose gate was written by it
+  -- and a batch was begun after the one whose gate was written by it
   pub made_follows : (opened : Opened) (along : Room) (following : BegunBatch) (last : Room)
       → IsNextCall disk now under_way (Ok (called.UnderWay (GateWritten opened along))) new
       → IsOneCall disk.failures disk.outlook now new (Ok (called.UnderWay (GateWritten opened along))) → more ≢ 0
@@ -118,7 +118,7 @@ module _ {D : Type 0} (disk : Ghosts D) (old now new : Store D disk) (under_way 
         late = inr (omega (arith, less, few, others));
       }
 
-  -- ---- how many there are in the end
+  -- ---- the number of calls at the end
 
   module _ (roomy : IsRoomy (store_state disk.state old)) (done : List (List Decision)) (number : length done + length (flights_in under_way) + more ≡ most) where
     abbrev room : ℕ

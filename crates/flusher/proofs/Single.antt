@@ -95,7 +95,7 @@ module _ {D F C V : Type 0} (disk : Ghosts D) (gives : FeedGives F) (effects : V
   abbrev MadeFor : ℕ → Type 0
   MadeFor count = HaveSucceeded (calls_of_room s + (if count == 0 then 0 else 4)) (disk.outlook (disk_of old)) (disk.outlook (disk_of new))
 
-  -- and where it was refused
+  -- and if it was refused
   abbrev pub MadeBefore : Refusal → Type 0
   MadeBefore e = MakesCalls (disk.outlook (disk_of old)) (disk.outlook (disk_of new)) (calls_of_room s) [] (Err e)
 

@@ -79,7 +79,7 @@ pub on_ok : {T E : Type 0} (r : Result T E) (X Y : Type 0) → (X → Y) → OnO
 on_ok (Ok x) X Y step is = step is
 on_ok (Err e) X Y step is = tt
 
--- ---- a chain behind a checkpoint
+-- ---- a chain after a checkpoint
 
 module _ {D F C V : Type 0} (disk : Ghosts D) (gives : FeedGives F) (effects : V → List Effect) (step : C → V → C → Type 0) (most : ℕ)
     (old mid new : Store D disk) (feed feed' : F) (out out' : C)

@@ -24,7 +24,7 @@ pub record LastFailed {D : Type 0} {g : _} (failures : D → ℕ) (outlook : D �
   pub armed : outlook (disk_of old) ≢ AllSucceed
   pub failed : new.failed ≡ true
 
--- the one or the other, by the answer
+-- one of these two, as the result says
 abbrev pub AreStoreCalls : {D : Type 0} {g : _} {T : Type 0} → (D → ℕ) → (D → Outlook) → Store D g
     → Store D g → Result T Refusal → Type 0
 AreStoreCalls failures outlook old new result =
@@ -36,27 +36,28 @@ abbrev pub IsUntouched : {D : Type 0} {g : _} → (D → State) → Store D g �
 IsUntouched state old new =
     (store_state state new ≡ store_state state old) × (disk_of new ≡ disk_of old)
 
--- ---- how many calls were made: by what was known of the coming ones before them, and is after
+-- ---- how many calls were made: by what was known of the coming ones before them and after them
 
--- so many succeeded
+-- this number succeeded
 abbrev pub HaveSucceeded : ℕ → Outlook → Outlook → Type 0
 HaveSucceeded made Unknown new = new ≡ Unknown
 HaveSucceeded made AllSucceed new = new ≡ AllSucceed
 HaveSucceeded made (FailsAfter left) new = (made ≤ left) × (new ≡ FailsAfter (left - made))
 
--- so many succeeded, and the one behind them failed
+-- this number succeeded, and the one after them failed
 abbrev pub HasFailedBehind : ℕ → Outlook → Outlook → Type 0
 HasFailedBehind made Unknown new = new ≡ Unknown
 HasFailedBehind made AllSucceed new = ⊥
 HasFailedBehind made (FailsAfter left) new = (left ≡ made) × (new ≡ AllSucceed)
 
--- one failed, behind at least so many that succeeded and fewer than that many
+-- one failed, after at least the first number and fewer than the second number of calls that
+-- succeeded
 abbrev pub HasFailedWithin : ℕ → ℕ → Outlook → Outlook → Type 0
 HasFailedWithin least most old new =
     (made : ℕ) × ((least ≤ made) × ((made < most) × HasFailedBehind made old new))
 
--- how many make room for the largest batch: where the journal lacks it, those of a checkpoint, with
--- two more where the other area's gate has to be closed first
+-- how many calls make room for the largest batch: if the journal doesn't have it, those of a
+-- checkpoint, and two more if the other area's gate has to be closed first
 abbrev pub calls_of_room : StoreState → ℕ
 calls_of_room s =
     if nat_le (s.log.next + LARGEST_BATCH) s.log.areas.live.end

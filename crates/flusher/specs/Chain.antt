@@ -23,7 +23,8 @@ use Rattle.flusher.specs.Calls.{HasFailedWithin, HaveSucceeded, IsUntouched, Las
 use Rattle.flusher.specs.Calls.{NoneFailed, calls_of_room}
 use Rattle.flusher.specs.Cycle.{Commits, HoldsWithOrWithout, IsReady, IsUncommitted, IsUnready}
 
--- a feed as it was, how many decisions were asked for at most, its answer, and the feed then
+-- a feed before a call, the greatest number of decisions that was asked for, its result, and the
+-- feed after the call
 abbrev pub FeedGives : Type 0 → Type 1
 FeedGives F = F → ℕ → Result (List Decision) Refusal → F → Type 0
 
@@ -31,12 +32,13 @@ FeedGives F = F → ℕ → Result (List Decision) Refusal → F → Type 0
 abbrev pub batched_decisions : List (List Decision) → List Decision
 batched_decisions batches = flat_map (λ batch. batch) batches
 
--- a feed that is asked again and again for the largest batch gives these, none of which is empty
+-- a feed that is asked repeatedly for the largest batch gives these, none of which is empty
 abbrev pub GivesAll : {F : Type 0} → FeedGives F → F → List (List Decision) → F → Type 0
 GivesAll gives old batches new =
     FoldsTo (λ feed batch next. (batch ≢ []) × gives feed MOST (Ok batch) next) old batches new
 
--- the effects of these batches leave a table: those of each at once, one batch after another
+-- the effects of these batches leave, starting from this table: those of each batch at once, one
+-- batch after another
 abbrev pub LeaveInOrder : {C V : Type 0} → (V → List Effect) → (C → V → C → Type 0) → TableState
     → List (List Decision) → C → C → Type 0
 LeaveInOrder effects call t [] old new = new ≡ old
@@ -45,36 +47,36 @@ LeaveInOrder {C} {V} effects call t (batch ∷ batches) old new =
     × (call old released next
     × LeaveInOrder effects call (fold_of t (commands_of batch)) batches next new)))
 
--- the store that has committed these batches, where no call of its disk failed
+-- the store that has committed these batches, if no call of its disk failed
 abbrev pub store_behind : StoreState → List (List Decision) → StoreState
 store_behind s batches = record s {
   table = fold_of s.table (commands_of (batched_decisions batches));
   seq = s.seq + length (batched_decisions batches);
 }
 
--- Why a chain ends behind these batches without a refusal: they are as many as it may have, or the
--- journal lacks room for one more, or the feed gave an empty one.
+-- Why a chain ends after these batches without a refusal: they are the most that it may have, or
+-- the journal has no room for one more, or the feed gave an empty one.
 abbrev pub HasEnded : {F : Type 0} → FeedGives F → ℕ → StoreState → List (List Decision) → F → F
     → Type 0
 HasEnded gives most new batches old_feed new_feed =
     ((new_feed ≡ old_feed) × ((length batches ≡ most) ⊎ ((batches ≢ []) × ¬ (IsRoomy new))))
     ⊎ ((length batches < most) × gives old_feed MOST (Ok []) new_feed)
 
--- Why a chain is refused behind these batches.
+-- Why a chain is refused after these batches.
 pub data HasBroken {F : Type 0} (gives : FeedGives F) (most : ℕ) (untouched failure : Type 0)
     (s : StoreState) (batches : List (List Decision)) (torn : List Decision)
     (old_feed new_feed : F) (e : Refusal) : Type 0 where
-  -- none was asked for: the store wasn't ready for a first one
+  -- no batch was asked for: the store wasn't ready for a first one
   WasUnready : new_feed ≡ old_feed → torn ≡ [] → batches ≡ [] → IsUnready s untouched failure e
       → HasBroken gives most untouched failure s batches torn old_feed new_feed e
-  -- no other was asked for: there was no memory for its effects
+  -- no further batch was asked for: memory ran out for its effects
   HadNoRoom : new_feed ≡ old_feed → torn ≡ [] → batches ≢ [] → e ≡ OutOfMemory
       → HasBroken gives most untouched failure s batches torn old_feed new_feed e
   -- the feed refused one
   FeedRefused : IsReady s → torn ≡ [] → gives old_feed MOST (Err e) new_feed
       → HasBroken gives most untouched failure s batches torn old_feed new_feed e
-  -- it gave this one, which wasn't committed; where a device call failed, it may have been asked
-  -- for the batch behind that, which is given up too
+  -- it gave this one, which wasn't committed; if a device call failed, the feed may have been asked
+  -- for the batch after that, which is given up too
   WasUncommitted : IsReady s → (next : F) → GivesAll gives old_feed (torn ∷ []) next
       → IsUncommitted (store_behind s batches) torn failure e
       → (new_feed ≡ next) ⊎ ((e ≡ DeviceFailed) × ((length batches + 1 < most)
@@ -82,15 +84,15 @@ pub data HasBroken {F : Type 0} (gives : FeedGives F) (most : ℕ) (untouched fa
       → HasBroken gives most untouched failure s batches torn old_feed new_feed e
 
 -- how many calls of the disk commit these batches: the gate of each shares its sync with the body
--- of the one behind it
+-- of the one after it
 abbrev pub calls_of_batches : List (List Decision) → ℕ
 calls_of_batches [] = 0
 calls_of_batches (batch ∷ batches) = 3 * length (batch ∷ batches) + 1
 
--- The calls of a chain that commits these batches, behind those that make room. Where it is refused
--- and none failed, they are as many, or none at all without room. Where one failed, it is one of
--- those that make room; or as many succeeded as these batches take, and no more than one batch more
--- would.
+-- The calls of a chain that commits these batches, after those that make room. If it is refused and
+-- no call failed, they are those of these batches; or, if no batch was committed, perhaps no call
+-- at all, not even those that make room. If a call failed, it is one of those that make room; or at
+-- least the calls of these batches succeeded, and at most those of one more batch.
 abbrev pub MakesCalls : Outlook → Outlook → ℕ → List (List Decision) → Result ℕ Refusal → Type 0
 MakesCalls old new room batches result =
     MatchResult result
@@ -99,9 +101,9 @@ MakesCalls old new room batches result =
     ⊎ (((batches ≡ []) × ((new ≡ old) ⊎ HasFailedWithin 0 room old new))
     ⊎ HasFailedWithin (room + calls_of_batches batches) (room + 3 * length batches + 5) old new))
 
--- A chain of at most so many commits. These batches came from the feed, were committed, and their
--- effects left. The one that was given up behind them is the torn one, which is empty where there
--- is none: whatever a crash leaves holds what the store has, or that with this batch.
+-- A chain of at most this number of commits. These batches came from the feed, were committed, and
+-- their effects left. The one that was given up after them is the torn one, which is empty if there
+-- is none. Each image that a crash may leave holds what the store has, or that with this batch.
 pub record IsChain {D F C V : Type 0} (disk : Ghosts D) (gives : FeedGives F)
     (effects : V → List Effect) (call : C → V → C → Type 0) (most : ℕ)
     (old new : Store D disk) (old_feed new_feed : F)
@@ -121,7 +123,7 @@ pub record IsChain {D F C V : Type 0} (disk : Ghosts D) (gives : FeedGives F)
       × HasBroken gives most (IsUntouched disk.state old new)
       (LastFailed disk.failures disk.outlook old new)
       (store_state disk.state old) batches torn feed new_feed e)
-  -- behind a batch it is refused only where the journal has room for another, or a call failed
+  -- after a batch it is refused only if the journal has room for another, or a call failed
   pub roomy : OnErr result (batches ≢ [] → NoneFailed disk.failures disk.outlook old new
       → IsRoomy (store_state disk.state new))
   pub calls : MatchResult result
@@ -136,7 +138,7 @@ pub record IsChain {D F C V : Type 0} (disk : Ghosts D) (gives : FeedGives F)
       → EveryImage (disk.state (disk_of new))
       (HoldsWithOrWithout (store_state disk.state new) torn)
 
--- ---- what the private function that commits the batches behind a first one does
+-- ---- what the private function that commits the batches after a first one does
 
 -- it is a chain in which a batch was given
 abbrev pub IsChainOfSome : {D F C V : Type 0} (disk : Ghosts D) → FeedGives F
@@ -146,17 +148,17 @@ IsChainOfSome disk gives effects call most old new old_feed new_feed old_out new
     (chain : IsChain disk gives effects call most old new old_feed new_feed old_out new_out result)
     × (chain.batches ≡ [] → chain.torn ≢ [])
 
--- ---- what the private function that gets the batch behind the one under way answers
+-- ---- what the private function that gets the batch after the one under way returns
 
--- the store's table and number behind the batch under way
+-- the store's table and number after the batch under way
 abbrev pub store_behind_opened : StoreState → GateWritten → StoreState
 store_behind_opened s opened = record s {
   table = table_behind s opened;
   seq = (gate_written_sequel opened).seq;
 }
 
--- no batch follows: no other may, or the journal lacks room behind the one under way, or the feed
--- gave an empty one
+-- no batch follows: none may, or the journal has no room after the one under way, or the feed gave
+-- an empty one
 abbrev pub NoneFollows : {F : Type 0} → FeedGives F → ℕ → StoreState → GateWritten → F → F → Type 0
 NoneFollows gives more s opened old_feed new_feed =
     ((new_feed ≡ old_feed) × ((more ≡ 0) ⊎ ¬ (IsRoomyBehind s opened)))
@@ -171,7 +173,7 @@ pub record FollowsOpened {F : Type 0} (gives : FeedGives F) (more : ℕ) (s : St
   pub may : MayFollowBehind s opened begun
   pub on_disk : IsBegunBehind s opened begun
 
--- one was refused, where the journal has room behind the one under way: there was no memory for its
+-- one was refused, and the journal has room after the one under way: memory ran out for its
 -- effects, or the feed refused it, or it was given and not begun
 abbrev pub IsFollowRefusal : {F : Type 0} → FeedGives F → ℕ → StoreState → GateWritten → F → F
     → Refusal → Type 0

@@ -23,7 +23,7 @@ HoldsWithOrWithout s ds image =
     HoldsTable s.table s.seq image
     ⊎ HoldsTable (fold_of s.table (commands_of ds)) (s.seq + length ds) image
 
--- why a store wrote no checkpoint; `failure` is what is known where a call of the disk failed
+-- why a store wrote no checkpoint; `failure` is what is known if a call of the disk failed
 abbrev pub IsUnchecked : StoreState → Type 0 → Refusal → Type 0
 IsUnchecked s failure e =
     MatchBool s.failed
@@ -38,14 +38,14 @@ IsUnready s untouched failure e =
     (untouched ⊎ (e ≡ DeviceFailed))
     × ((e ≡ OutOfMemory) ⊎ ((¬ (IsRoomy s)) × IsUnchecked s failure e))
 
--- a checkpoint was written exactly where the journal lacked room for the largest batch: it is of
--- the next generation
+-- a checkpoint was written exactly if the journal had no room for the largest batch: it is of the
+-- next generation
 abbrev pub ChecksWhereFull : StoreState → StoreState → Type 0
 ChecksWhereFull old new =
     (IsRoomy old → new.log.generation ≡ old.log.generation)
     × ((¬ (IsRoomy old)) → new.log.generation ≡ old.log.generation + 1)
 
--- the journal has room for the largest batch, or a checkpoint may make it
+-- the journal has room for the largest batch, or a checkpoint may make that room
 abbrev pub IsReady : StoreState → Type 0
 IsReady s = IsRoomy s ⊎ ((s.failed ≡ false) × (s.log.generation < LAST_GENERATION))
 

@@ -9,8 +9,8 @@ use Rattle.flusher.specs.declared.feed.StoredBatches.{StoredBatches}
 abbrev pub stored_in : StoredBatches → List (List Decision)
 stored_in stored = stored.batches.items
 
--- the first batch comes and the others stay; where there is none, an empty one comes, or memory is
--- out
+-- the first batch is given and the others stay; if there is none, an empty one is given, or memory
+-- ran out
 abbrev pub GivesStored : List (List Decision) → Result (List Decision) Refusal
     → List (List Decision) → Type 0
 GivesStored [] answer left =

@@ -16,15 +16,15 @@ HoldsWithTorn s torn image =
     ⊎ HoldsTable (fold_of s.table torn) (s.seq + length torn) image
 
 -- Lives that began with this table and number have led a store here: it has the fold of what is
--- durable, and whatever a crash leaves of its disk holds that, without what is torn or with it.
--- While no call of the disk has failed nothing is torn, and nothing is under way.
+-- durable, and each image that a crash may leave of its disk holds that, without what is torn or
+-- with it. While no call of the disk has failed nothing is torn, and nothing is under way.
 pub record HaveLed (lives : Lives) (t : TableState) (number : ℕ) (s : StoreState) : Type 0 where
   pub table : s.table ≡ fold_of t lives.durable
   pub seq : s.seq ≡ number + length lives.durable
   pub images : EveryImage s.log.disk (HoldsWithTorn s lives.torn)
   pub settled : MatchBool s.failed (Unit {0}) ((lives.torn ≡ []) × IsSettled s)
 
--- one event, or none, makes these lives of those
+-- at most one event leads from those lives to these
 abbrev pub GoOn : TableState → Lives → Lives → Type 0
 GoOn t lives next = (next ≡ lives) ⊎ ((event : LifeEvent) × (next ≡ lives_after t lives event))
 
@@ -32,8 +32,8 @@ GoOn t lives next = (next ≡ lives) ⊎ ((event : LifeEvent) × (next ≡ lives
 abbrev pub HoldsFold : TableState → ℕ → List Command → List ℕ → Type 0
 HoldsFold t number commands image = HoldsTable (fold_of t commands) (number + length commands) image
 
--- Whatever a crash leaves of this disk holds the fold of what is durable in these lives, without
--- what is torn or with it.
+-- Each image that a crash may leave of this disk holds the fold of what is durable in these lives,
+-- without what is torn or with it.
 abbrev pub AreOnDisk : Lives → TableState → ℕ → State → Type 0
 AreOnDisk lives t number disk =
     EveryImage disk (λ image. HoldsFold t number lives.durable image
@@ -43,8 +43,8 @@ AreOnDisk lives t number disk =
 abbrev pub IsKnownOfLives : Type 1
 IsKnownOfLives = Lives → TableState → ℕ → Type 0
 
--- Whatever lives came here have come there, by one event after another; and what left besides was
--- given away in calls, in order, by which the one who takes it came from `old` to `new`.
+-- Any lives that came here have come there, by one event after another. What left in addition was
+-- given away in calls, in order, by which the closure that takes it came from `old` to `new`.
 abbrev pub GoOnFrom : {C V : Type 0} → (V → List Effect) → (C → V → C → Type 0) → IsKnownOfLives
     → IsKnownOfLives → C → C → Type 0
 GoOnFrom {C} {V} effects call here there old new =
@@ -61,7 +61,7 @@ LeadOn effects call here there old new =
     GoOnFrom effects call (λ lives t number. HaveLed lives t number here)
     (λ lives t number. HaveLed lives t number there) old new
 
--- The same where one event at most leads on: what left besides was given away at once.
+-- The same if at most one event leads on: what left in addition was given away at once.
 abbrev pub LeadsOn : {C V : Type 0} → (V → List Effect) → (C → V → C → Type 0) → StoreState
     → StoreState → C → C → Type 0
 LeadsOn {C} {V} effects call here there old new =

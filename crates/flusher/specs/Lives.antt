@@ -16,7 +16,7 @@ pub data LifeEvent : Type 0 where
 pub record Lives : Type 0 where
   -- the commands whose fold is the store's table
   pub durable : List Command
-  -- those that the disk may hold besides
+  -- those that the disk may hold in addition
   pub torn : List Command
   -- what has left
   pub left : List Effect
@@ -25,7 +25,7 @@ pub record Lives : Type 0 where
 abbrev pub no_lives : Lives
 no_lives = record { durable = []; torn = []; left = [] }
 
--- the lives of a store that began with this table, after one event more
+-- the lives of a store that began with this table, after one more event
 abbrev pub lives_after : TableState → Lives → LifeEvent → Lives
 lives_after t lives (Released commands) =
     record lives {

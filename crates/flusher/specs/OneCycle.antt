@@ -37,7 +37,8 @@ IsCycleRefusal gives untouched failure s old_feed new_feed e =
     ⊎ ((batch : List Decision) × (gives old_feed MOST (Ok batch) new_feed × ((batch ≢ [])
     × IsUncommitted s batch failure e)))))
 
--- whatever a crash leaves holds what the store had, or the refused batch too where a call failed
+-- each image that a crash may leave holds what the store had, or also the refused batch if a call
+-- failed
 abbrev pub LeavesOneInDoubt : {F : Type 0} → FeedGives F → StoreState → StoreState → F → F → Refusal
     → Type 0
 LeavesOneInDoubt gives s s' old_feed new_feed e =
@@ -50,7 +51,7 @@ pub record IsCycle {D F C V : Type 0} (disk : Ghosts D) (gives : FeedGives F)
     (old_feed new_feed : F) (old_out new_out : C) (result : Result ℕ Refusal) : Type 0 where
   pub done : IfOk result (CommitsOne gives effects call (store_state disk.state old)
       (store_state disk.state new) old_feed new_feed old_out new_out)
-  -- where it is refused nothing left, and the store has what it had
+  -- if it is refused nothing left, and the store has what it had
   pub held_back : OnErr result (new_out ≡ old_out)
   pub table : OnErr result
       ((store_state disk.state new).table ≡ (store_state disk.state old).table)
@@ -62,7 +63,7 @@ pub record IsCycle {D F C V : Type 0} (disk : Ghosts D) (gives : FeedGives F)
       (λ _. NoneFailed disk.failures disk.outlook old new)
       (λ e. NoneFailed disk.failures disk.outlook old new
       ⊎ ((e ≡ DeviceFailed) × LastFailed disk.failures disk.outlook old new))
-  -- a batch takes four calls, behind those that make room; where it is refused, they are those of a
+  -- a batch takes four calls, after those that make room; if it is refused, they are those of a
   -- chain that committed none
   pub made : MatchResult result
       (λ count. HaveSucceeded
@@ -70,7 +71,7 @@ pub record IsCycle {D F C V : Type 0} (disk : Ghosts D) (gives : FeedGives F)
       (disk.outlook (disk_of old)) (disk.outlook (disk_of new)))
       (λ e. MakesCalls (disk.outlook (disk_of old)) (disk.outlook (disk_of new))
       (calls_of_room (store_state disk.state old)) [] (Err e))
-  -- where no call of the disk failed, nothing is under way
+  -- if no call of the disk failed, nothing is under way
   pub settled : disk.honest → IsSettled (store_state disk.state old)
       → NoneFailed disk.failures disk.outlook old new → IsSettled (store_state disk.state new)
   pub images : disk.honest → IsSettled (store_state disk.state old) → MatchResult result

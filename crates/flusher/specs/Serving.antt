@@ -8,7 +8,7 @@ use Rattle.lw_types.specs.declared.refusal.Refusal.{Refusal}
 use Rattle.store.specs.declared.store.Store.{Store}
 use Rattle.flusher.specs.Chain.{FeedGives, IsChain}
 
--- Chains that are answered so, one after another: each goes on with the store, the feed and the
+-- Chains with these results, one after another: each goes on with the store, the feed and the
 -- closure that the one before it left.
 abbrev pub MakeChains : {D F C V : Type 0} (disk : Ghosts D) → FeedGives F → (V → List Effect)
     → (C → V → C → Type 0) → ℕ → Store D disk → Store D disk → F → F → C → C
@@ -21,23 +21,23 @@ MakeChains {D} {F} {C} {V} disk gives effects call most old new old_feed new_fee
     × (IsChain disk gives effects call most old store old_feed feed old_out out answer
     × MakeChains disk gives effects call most store new feed new_feed out new_out answers)))
 
--- how the last of them is answered: it had no batch, or was refused so
+-- the result of the last of them: it had no batch, or had this refusal
 abbrev pub last_answer : Result (Unit {0}) Refusal → Result ℕ Refusal
 last_answer (Ok done) = Ok 0
 last_answer (Err e) = Err e
 
--- how all of them are answered: those before the last one had so many decisions
+-- the results of all of them: each before the last one had one of these numbers of decisions
 abbrev pub answers_of : List ℕ → Result (Unit {0}) Refusal → List (Result ℕ Refusal)
 answers_of counts result = map (λ count. Ok count) counts ++ last_answer result ∷ []
 
--- what is asked behind a chain that had so many decisions: whether all is done, where it had none,
--- and it isn't
+-- what is asked after a chain with this number of decisions: if it had none, whether all is done,
+-- which isn't so
 abbrev pub GoesOnBehind : {S : Type 0} → (S → Bool → S → Type 0) → S → ℕ → S → Type 0
 GoesOnBehind ask old zero new = ask old false new
 GoesOnBehind ask old (suc count) new = new ≡ old
 
--- what is asked behind all of them: so behind each, and at last, where none was refused, that all
--- is done
+-- what is asked after all of them: the above after each one before the last; after the last one, if
+-- it wasn't refused, whether all is done, which is so
 abbrev pub AsksBehind : {S : Type 0} → (S → Bool → S → Type 0) → List ℕ
     → Result (Unit {0}) Refusal → S → S → Type 0
 AsksBehind {S} ask counts result old new =

@@ -24,25 +24,25 @@ use sessions::Batch;
 use std::alloc::Global;
 use store::{Begun, Called, GateWritten, Store, UnderWay};
 
-/// How many batches a chain has at most.
+/// The greatest number of batches of a chain.
 pub type ChainLength = Ranged<1, 4096>;
 
-/// A chain of a flusher's commits, on a store with nothing under way: takes batches from the feed,
-/// commits them, and gives the effects of each to `out` as soon as it is durable, once and all
-/// together, in the order of the batches. A batch's gate and the body of the next one share a sync,
-/// so that n batches take 3n + 1 calls of the disk. Answers how many decisions the batches had.
-/// The chain ends behind `most` batches, where the feed gives an empty batch, or where the journal
-/// lacks room for the largest one. Where it lacks that at the start, a checkpoint is written first,
-/// by four calls or six.
+/// A chain of a flusher's commits, on a store with nothing under way. It takes batches from the
+/// feed, commits them, and gives the effects of each batch to `out` as soon as the batch is
+/// durable: once, all together, and in the order of the batches. A batch's gate and the body of the
+/// next one share a sync, so n batches take 3n + 1 calls of the disk. Returns the number of
+/// decisions of these batches. The chain ends after `most` batches, if the feed gives an empty
+/// batch, or if the journal doesn't have room for the largest one. If it doesn't have that room at
+/// the beginning, a checkpoint is written first, by four calls or six.
 ///
-/// A refusal is as [`cycle`](crate::cycle) says of the batch at which it comes: those before it are
-/// durable and their effects have left, none of its own has. Where the batch behind the one under
-/// way is refused, that one is synced alone and its effects leave before the refusal is answered;
-/// and where this sync fails, the answer is `DeviceFailed`. Of one batch at most it isn't known
-/// then whether the disk has it. A batch that was taken and refused is given up, and so is the one
-/// behind it.
+/// A refusal is as [`cycle`](crate::cycle) says for the batch at which it comes. The batches before
+/// it are durable and their effects have left; none of its own has. If the batch after the one
+/// under way is refused, the one under way is synced alone, and its effects leave before the
+/// refusal is returned. If this sync fails, `DeviceFailed` is returned. Then it is unknown for at
+/// most one batch whether the disk has it. A batch that was taken and refused is given up, and so
+/// is the one after it.
 ///
-/// A chain costs by its batches, and one with a checkpoint by the whole table.
+/// The cost grows with the batches, and with the whole table if a checkpoint is written.
 pub fn chain<D: Disk, F: Feed, C: FnMut(Vec<Released>)>(
     store: &mut Store<D>,
     feed: &mut F,
@@ -57,7 +57,7 @@ pub fn chain<D: Disk, F: Feed, C: FnMut(Vec<Released>)>(
         store.old store.new feed.old feed.new out.old out.new result }
     ensures ready { OnOk result (IsReady (store_state D.state store.old)) }
 
-    // A checkpoint was written exactly where the largest batch had no room.
+    // A checkpoint was written exactly if the largest batch had no room.
     ensures checkpoint { D.honest → IsSettled (store_state D.state store.old) → OnOk result
         (ChecksWhereFull (store_state D.state store.old) (store_state D.state store.new)) }
 
@@ -65,7 +65,8 @@ pub fn chain<D: Disk, F: Feed, C: FnMut(Vec<Released>)>(
     ensures closed { (store_state D.state store.old).failed ≡ true
         → IsUntouched D.state store.old store.new }
 
-    // Whatever lives led the store here go on, and what left besides was given to `out`, in order.
+    // The lives that led the store here continue, and what left in addition was given to `out`, in
+    // order.
     ensures lives { D.honest → LeadOn (λ (released : Vec Released Global).
         effects_of_all released.items) (λ before released after. C.step before released tt after)
         (store_state D.state store.old) (store_state D.state store.new) out.old out.new }
@@ -82,7 +83,7 @@ pub fn chain<D: Disk, F: Feed, C: FnMut(Vec<Released>)>(
     follow(begun, room, store, feed, alloc, most.get() - 1, out)
 }
 
-// Commits a batch that is begun, and at most so many `more` behind it.
+// Commits a batch that is begun, and at most `more` batches after it.
 fn follow<D: Disk, F: Feed, C: FnMut(Vec<Released>)>(
     begun: Begun,
     room: Room,
@@ -150,8 +151,9 @@ fn follow<D: Disk, F: Feed, C: FnMut(Vec<Released>)>(
     }
 }
 
-// Begins the commit of the batch behind the one under way, with room for its effects; `None` where
-// `more` is 0, the journal lacks room behind the one under way, or the feed gives an empty batch.
+// Begins the commit of the batch after the one under way, with room for its effects. Returns `None`
+// if `more` is 0, the journal has no room after the one under way, or the feed gives an empty
+// batch.
 fn begin_following<D: Disk, F: Feed>(
     under_way: &GateWritten,
     store: &Store<D>,
@@ -182,7 +184,7 @@ fn begin_following<D: Disk, F: Feed>(
     Ok(Some((begun, room)))
 }
 
-// What writes the batch that is begun behind one whose gate is written.
+// What writes the batch that is begun after one whose gate is written.
 fn followed(opened: GateWritten, along: Room, following: Begun, behind: Room) -> UnderWay<Room>
     ensures { result ≡ Following opened along following behind }
 {
@@ -194,14 +196,14 @@ fn followed(opened: GateWritten, along: Room, following: Begun, behind: Room) ->
     }
 }
 
-// The feed's next batch, asked for as many decisions as the largest one has.
+// The feed's next batch, which is asked for the number of decisions of the largest one.
 fn take<F: Feed>(feed: &mut F) -> Result<Batch, Refusal>
     ensures { F.gives feed.old MOST result feed.new }
 {
     feed.next(largest())
 }
 
-// Gives the effects of a durable batch to `out`, and answers how many decisions it has.
+// Gives the effects of a durable batch to `out`, and returns the number of its decisions.
 fn release<C: FnMut(Vec<Released>)>(durable: store::Durable, room: Room, out: &mut C) -> usize
     requires { C.IsAlwaysCallable out.old }
     ensures count { result ≡ length (durable_decisions durable) }
@@ -217,7 +219,7 @@ fn release<C: FnMut(Vec<Released>)>(durable: store::Durable, room: Room, out: &m
     count
 }
 
-// As many decisions as the largest batch has.
+// The number of decisions of the largest batch.
 fn largest() -> Most
     ensures { result ≡ MOST }
 {

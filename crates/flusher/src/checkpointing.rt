@@ -14,7 +14,7 @@ use lw_types::Refusal;
 use std::alloc::Global;
 use store::{Checkpoint, Publishing, Store};
 
-/// Makes room for the largest batch: where there is none, a checkpoint is written.
+/// Makes room for the largest batch: writes a checkpoint if there is none.
 pub(crate) fn make_room<D: Disk>(alloc: Global, store: &mut Store<D>) -> Result<(), Refusal>
     ensures calls { MatchResult result
         (λ _. NoneFailed D.failures D.outlook store.old store.new)
@@ -48,7 +48,7 @@ pub(crate) fn make_room<D: Disk>(alloc: Global, store: &mut Store<D>) -> Result<
     publish(store, checkpoint)
 }
 
-// Writes a checkpoint by four calls of the disk, or six where the other area's gate is open.
+// Writes a checkpoint by four calls of the disk, or six if the other area's gate is open.
 fn publish<D: Disk>(store: &mut Store<D>, checkpoint: Checkpoint) -> Result<(), Refusal>
     requires { FitsOther (store_state D.state store.old) (checkpoint_size checkpoint) }
     ensures calls { AreStoreCalls D.failures D.outlook store.old store.new result }

@@ -14,20 +14,26 @@ use lw_types::Refusal;
 use std::alloc::Global;
 use store::Store;
 
-/// One cycle of a flusher, on a store with nothing under way: takes a batch from the feed, commits
-/// it by four calls of the disk, and then gives the effects of its commands to `out`, once and all
-/// together. Answers how many decisions it had. Where the feed gives an empty batch, that is 0, and
-/// `out` isn't called. Where the journal has no room for the largest batch, a checkpoint is written
-/// first, by four calls or six.
+/// One cycle of a flusher, on a store with nothing under way. It takes a batch from the feed,
+/// commits it by four calls of the disk, and then gives the effects of its commands to `out`, once
+/// and all together. Returns the number of decisions of the batch. If the feed gives an empty
+/// batch, that is 0, and `out` isn't called. If the journal has no room for the largest batch, a
+/// checkpoint is written first, by four calls or six.
 ///
-/// A refusal comes before anything has left: `OutOfMemory` for want of memory; `Damaged` exactly
-/// where a checkpoint is due and the live area has the last generation; the feed's own; `Failed`
-/// exactly where an earlier call of the disk failed and a checkpoint is due or the batch isn't
-/// empty; `OutOfStep` exactly where the batch isn't empty and no legal continuation of the durable
-/// table; `DeviceFailed` exactly where a call of the disk failed. Room for the effects is got
-/// before all else, and a batch that was taken and refused is given up.
+/// A refusal is returned before anything has left:
 ///
-/// A cycle costs by its batch, and one with a checkpoint by the whole table.
+/// - `OutOfMemory` if memory runs out;
+/// - `Damaged` exactly if a checkpoint is due and the live area has the last generation;
+/// - the feed's own refusal;
+/// - `Failed` exactly if an earlier call of the disk failed and a checkpoint is due or the batch
+///   isn't empty;
+/// - `OutOfStep` exactly if the batch isn't empty and no legal continuation of the durable table;
+/// - `DeviceFailed` exactly if a call of the disk failed.
+///
+/// Room for the effects is allocated before everything else. A batch that was taken and refused is
+/// given up.
+///
+/// The cost grows with the batch, and with the whole table if a checkpoint is written.
 pub fn cycle<D: Disk, F: Feed, C: FnMut(Vec<Released>)>(
     store: &mut Store<D>,
     feed: &mut F,
@@ -42,7 +48,7 @@ pub fn cycle<D: Disk, F: Feed, C: FnMut(Vec<Released>)>(
         store.old store.new feed.old feed.new out.old out.new result }
     ensures ready { OnOk result (IsReady (store_state D.state store.old)) }
 
-    // A checkpoint was written exactly where the largest batch had no room.
+    // A checkpoint was written exactly if the largest batch had no room.
     ensures checkpoint { D.honest → IsSettled (store_state D.state store.old) → OnOk result
         (ChecksWhereFull (store_state D.state store.old) (store_state D.state store.new)) }
 
@@ -50,7 +56,8 @@ pub fn cycle<D: Disk, F: Feed, C: FnMut(Vec<Released>)>(
     ensures closed { (store_state D.state store.old).failed ≡ true
         → IsUntouched D.state store.old store.new }
 
-    // Whatever lives led the store here go on, and what left besides was given to `out` at once.
+    // The lives that led the store here continue, and what left in addition was given to `out` at
+    // once.
     ensures lives { D.honest → LeadsOn (λ (released : Vec Released Global).
         effects_of_all released.items) (λ before released after. C.step before released tt after)
         (store_state D.state store.old) (store_state D.state store.new) out.old out.new }

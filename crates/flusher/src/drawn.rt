@@ -1,14 +1,14 @@
-// Batches that are drawn from a core which threads share.
+// Batches that are taken from a core which threads share.
 use crate::{Feed, Most};
 use lw_types::Refusal;
 use session_core::{Books, Sessions, Taker};
 use sessions::Batch;
 use std::sync::Wait;
 
-/// The decisions that wait behind the lock of a core: each batch is the oldest of them, as
-/// [`Sessions::take`] gives them. Of a batch nothing is promised but that it isn't longer than was
-/// asked for, and that the taker's share counts it: [`chain`](crate::chain) compares each batch
-/// with what is durable or under way.
+/// The decisions that wait in a core, under its lock. Each batch is the oldest of them, as
+/// [`Sessions::take`] returns them. Of a batch only two things are promised: it isn't longer than
+/// was asked for, and the taker's share counts it. [`chain`](crate::chain) compares each batch with
+/// what is durable or under way.
 #[derive(Drop)]
 pub struct Drawn<'x, B: Books, S: Sessions<B>, R: Wait> {
     rt: &'x R,
@@ -30,7 +30,7 @@ impl<'x, B: Books, S: Sessions<B>, R: Wait> Drawn<'x, B, S, R> {
         }
     }
 
-    /// How many decisions were taken.
+    /// The number of decisions that were taken.
     pub fn share(&self) -> u64
         ensures { result ≡ self.now.taker }
     {

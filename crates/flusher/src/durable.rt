@@ -9,8 +9,8 @@ use crate::{MOST_EFFECTS, Released, Room};
 use devices::Effects;
 use sessions::{Placed, PlacedBatch};
 
-/// A batch that every crash leaves, and room for its effects. It must be spent: its effects leave
-/// by `release`, and at a crash they are lost.
+/// A batch that every crash leaves, and room for its effects. It must be used up: `release` lets
+/// its effects leave, and at a crash they are lost.
 pub struct Durable {
     batch: PlacedBatch,
     room: Room,
@@ -27,7 +27,7 @@ impl Durable {
         }
     }
 
-    // How many decisions the batch has.
+    // The number of decisions of the batch.
     pub(crate) fn len(&self) -> usize
         ensures len { result ≡ length (decisions_of self.now) }
         ensures few { length (decisions_of self.now) ≤ MOST }
@@ -35,7 +35,7 @@ impl Durable {
         self.batch.len()
     }
 
-    /// The effects of the batch's decisions, in order and complete, at most
+    /// Returns the effects of the batch's decisions, in order and complete, at most
     /// [`MOST_EFFECTS`]. Takes no memory.
     pub fn release(self) -> Vec<Released>
         ensures effects { effects_of_all result.items ≡ effects_in (decisions_of self) }
@@ -49,7 +49,7 @@ impl Durable {
         effects
     }
 
-    /// Loses the effects, as a crash does.
+    /// Drops the effects, as a crash does.
     pub fn lose(self) {
         let Durable { batch: _, room: _ } = self;
     }

@@ -4,24 +4,24 @@ use sessions::{Batch, Most};
 use std::alloc::Global;
 use std::collections::VecDeque;
 
-/// Where the batches of a flusher come from. Each kind of feed says what it gives.
+/// Where the batches of a flusher come from. Each type of feed says what it gives.
 pub trait Feed {
     ghost use Rattle.std.specs.Prelude.{ℕ, List, Result};
     ghost use Rattle.lw_types.specs.declared.refusal.Refusal.{Refusal};
     ghost use Rattle.sessions.specs.declared.decision.Decision.{Decision};
 
-    /// The feed as it was, how many decisions were asked for at most, the answer, and the feed as
-    /// it is then.
+    /// The feed before the call, the greatest number of decisions that was asked for, the result,
+    /// and the feed after the call.
     ghost gives: { Self → ℕ → Result (List Decision) Refusal → Self → Type 0 };
 
-    /// The next decisions that are to be committed together, `most` at most. Where none wait, the
+    /// The next decisions that are to be committed together, at most `most`. If none wait, the
     /// batch is empty.
     fn next(&mut self, most: Most) -> Result<Batch, Refusal>
         ensures { gives self.old most result self.new };
 }
 
-/// Batches that are handed out in order, each whole, and empty batches behind them. Refused with
-/// `OutOfMemory` alone, where there is no memory for an empty one.
+/// Batches that are given in order, each whole, and empty batches after them. Refused only with
+/// `OutOfMemory`, if there is no memory for an empty one.
 #[derive(Drop)]
 pub struct StoredBatches {
     alloc: Global,

@@ -1,4 +1,4 @@
-//! What follows from the definitions of several lives alone. The functions do nothing: their
+//! What follows from the definitions of several lives alone. These functions do nothing: their
 //! contracts are the laws.
 ghost use Rattle.std.specs.Prelude.{◌≡◌, ℕ, Bool, List};
 ghost use Rattle.disk.specs.State.{EveryImage, IsPermitted, State};
@@ -13,17 +13,18 @@ ghost use Rattle.store.specs.State.{StoreState, HoldsOn, IsOpened, IsSettled};
 
 use crate::MOST_EFFECTS;
 
-/// How many effects the largest batch has.
+/// The number of effects of the largest batch.
 pub fn limits_are_these()
     ensures { MOST_EFFECTS ≡ 256 }
 {}
 
-/// Lives begin with a store on which nothing is under way, as one that was formatted or opened, and
-/// go on where an image is opened that a crash may have left of its disk ([`store::open`]); the
-/// content is such an image, so that the same is said of an opening without a crash. The same of a
-/// disk alone, which a store leaves where it is closed. Where the opening is refused, they are
-/// still on the disk that comes back then, as [`store::open_back`] says of it. It is refused for
-/// want of memory or by the device alone, never since there were no store (`no_fault`).
+/// Lives begin with a store on which nothing is under way, for example one that was formatted or
+/// opened. They continue when an image is opened that a crash may have left of its disk
+/// ([`store::open`]). The content is such an image, so the same holds for an opening without a
+/// crash. The same holds for a disk alone, which a store leaves when it is closed. If the opening
+/// is refused, the lives are on the disk that is then returned, as [`store::open_back`] says of it.
+/// It is refused only because memory ran out or by the device, never because no store exists
+/// (`no_fault`).
 pub fn lives_go_on()
     ensures begun { (s : StoreState) → IsSettled s → HaveLed no_lives s.table s.seq s }
     ensures opened { (lives : Lives) (t : TableState) (number : ℕ) (s opened : StoreState)
@@ -48,10 +49,10 @@ pub fn lives_go_on()
     store::laws::a_settled_store_is_on_its_disk();
 }
 
-/// No mark leaves twice, over any chains, crashes and openings: what has left is part of the
+/// No mark leaves twice, over any chains, crashes and openings. What has left is part of the
 /// effects of the commands that the store has, from its beginning on.
 ///
-/// [`crate::chain`] moves these lives on (`lives`), by an event for each of its batches, and
+/// [`crate::chain`] continues these lives (`lives`) by an event for each of its batches, and
 /// [`lives_go_on`] by an event for each opening. `flusher_lives::flush_over_lives`, a function of
 /// the crate above, has both in one theorem.
 pub fn no_mark_leaves_twice()

@@ -1,6 +1,6 @@
-//! What leaves the network, and when: an effect is seen outside only as a [`Released`], which is
-//! made of a durable batch alone. [`chain`] takes batches, commits and releases them, one after
-//! another, and [`cycle`] one alone.
+//! What leaves the network, and when. An effect is seen outside only as a [`Released`], which is
+//! made only of a durable batch. [`chain`] takes batches, commits them and releases their effects,
+//! one after another; [`cycle`] does so with one batch.
 #![tactic(auto)]
 
 mod chaining;

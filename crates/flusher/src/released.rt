@@ -3,13 +3,13 @@ ghost use Rattle.std.specs.Prelude.{◌≡◌};
 
 use devices::Effect;
 
-/// An effect of a durable decision. It is made where a durable batch is released and nowhere else,
-/// so whoever has one may let the effect out.
+/// An effect of a durable decision. It is made only when a durable batch is released, so code that
+/// has one may let the effect leave.
 pub struct Released {
     effect: Effect,
 }
 
-// By hand, so that its proof is done once: a derived drop is proved anew wherever a value goes.
+// Implemented by hand, so that its proof is done once: a derived drop is proved anew at each use.
 impl Drop for Released {
     fn drop(self) {
         let Self { effect: _ } = self;

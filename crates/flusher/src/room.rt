@@ -9,10 +9,10 @@ use lw_types::Refusal;
 use sessions::Batch;
 use std::alloc::Global;
 
-/// How many effects the largest batch has.
+/// The number of effects of the largest batch.
 pub const MOST_EFFECTS: usize = Batch::MOST * Effects::MOST;
 
-/// Room for the effects of the largest batch. It is got before the batch is taken, so that
+/// Room for the effects of the largest batch. It is allocated before the batch is taken, so
 /// releasing takes no memory.
 #[derive(Drop)]
 pub struct Room {
@@ -22,7 +22,7 @@ pub struct Room {
 }
 
 impl Room {
-    /// Room for them. Refused with `OutOfMemory` for want of memory.
+    /// Allocates that room. Refused with `OutOfMemory` if memory runs out.
     pub fn new(alloc: Global) -> Result<Self, Refusal>
         ensures { IfErr result (λ e. e ≡ OutOfMemory) }
     {

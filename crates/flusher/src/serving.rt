@@ -13,10 +13,10 @@ use std::alloc::Global;
 use std::sync::Wait;
 use store::Store;
 
-/// Repeats [`chain`], of at most 64 batches, until one is refused, or until `done` answers true
-/// after one without a batch. It waits nowhere itself: `done` is where the flusher waits.
-/// Each chain is as `chain` says, and goes on with what the one before it left: no batch is taken
-/// between them and no effect leaves. Of the batch that was refused no effect left. It need not
+/// Repeats [`chain`], of at most 64 batches, until one is refused, or until `done` returns true
+/// after one without a batch. It doesn't wait itself: the flusher waits in `done`. Each chain is as
+/// `chain` says, and continues with what the one before it left: between them no batch is taken and
+/// no effect leaves. No effect of the batch that was refused has left. This function need not
 /// return.
 pub fn serve<R: Wait, D: Disk, F: Feed, C: FnMut(Vec<Released>), S: FnMut() -> bool>(
     rt: &R,
@@ -29,14 +29,15 @@ pub fn serve<R: Wait, D: Disk, F: Feed, C: FnMut(Vec<Released>), S: FnMut() -> b
     requires out { C.IsAlwaysCallable out.old }
     requires done { S.IsAlwaysCallable done.old }
 
-    // Whatever lives led the store here go on, and what left besides was given to `out`, in order.
+    // The lives that led the store here continue, and what left in addition was given to `out`, in
+    // order.
     ensures lives { D.honest → LeadOn (λ (released : Vec Released Global).
         effects_of_all released.items) (λ before released after. C.step before released tt after)
         (store_state D.state store.old) (store_state D.state store.new) out.old out.new }
 
     // Its chains, in order, from what it was given to what it leaves. It ends with the refusal of
-    // the last one, or behind one without a batch, where `done` says so. That is asked behind each
-    // chain without a batch, and else never.
+    // the last one, or after one without a batch, if `done` says so. `done` is called after each
+    // chain without a batch, and at no other time.
     ensures chains { (counts : List ℕ) × (MakeChains D.Disk F.gives
         (λ (released : Vec Released Global). effects_of_all released.items)
         (λ before released after. C.step before released tt after) 64
@@ -53,7 +54,7 @@ pub fn serve<R: Wait, D: Disk, F: Feed, C: FnMut(Vec<Released>), S: FnMut() -> b
     unreachable!()
 }
 
-// How many batches a chain has at most.
+// The greatest number of batches of a chain.
 fn served() -> ChainLength
     ensures { result ≡ 64 }
 {

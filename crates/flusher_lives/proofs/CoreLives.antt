@@ -1,4 +1,4 @@
--- Chains of a core one after another, and the crash behind them.
+-- Chains of a core one after another, and the crash after them.
 use Rattle.std.proofs.Common.{◌≡◌, ◌∙◌, ◌+◌, inl, inr, ℕ, List, [], ◌∷◌, ◌++◌, length, flat_map, Vec, Global, sym, ap, subst, refl, arith, append_assoc, length-append}
 use Rattle.std.specs.List.{FoldsTo}
 use Rattle.std.proofs.lemmas.Grind.{flat_map-append}
@@ -23,7 +23,7 @@ use Rattle.flusher_lives.specs.declared.core_feed.CoreFeed.{CoreFeed}
 use Rattle.flusher_lives.specs.declared.core_lives.CoreLife.{CoreLife}
 use Rattle.flusher_lives.proofs.Decided.{TakingLaws, folds_then, in_both}
 
--- a core that begins with what a store has goes on from it
+-- a core that begins with what a store has continues from it
 pub begins_in_step : (s : StoreState) (core : CoreState) → core ≡ new_core s.table s.seq → IsInStep s core.decisions
 begins_in_step s core begun =
     let none : s.seq + 0 ≡ s.seq = omega arith in

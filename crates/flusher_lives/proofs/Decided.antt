@@ -1,4 +1,4 @@
--- What a flusher takes of a core continues what it took before.
+-- What a flusher takes from a core continues what it took before.
 use Rattle.std.proofs.Common.{◌≡◌, ◌≢◌, ◌∙◌, ◌+◌, ◌↔◌, ◌⊎◌, ◌<◌, inl, inr, ℕ, Bool, true, false, List, [], ◌∷◌, ◌++◌, length, take, flat_map, Result, Ok, Err, MatchBool, MatchResult, sym, ap, subst, refl, arith, append_assoc, length-append, take-append-drop}
 use Rattle.std.specs.Prelude.{IfErr, OnOk}
 use Rattle.std.specs.List.{FoldsTo}
@@ -115,7 +115,7 @@ folds_then step p q r (x ∷ xs) ys (mid, first, rest) more = (mid, first, folds
 one_more : (batches : List (List Decision)) (b : List Decision) → batched_decisions (batches ++ b ∷ []) ≡ batched_decisions batches ++ b
 one_more batches b = flat_map-append (λ batch. batch) batches (b ∷ []) ∙ ap (λ l. batched_decisions batches ++ l) (append-nil b)
 
--- takes of a feed one after another, by which it makes these decisions in all
+-- takes of a feed one after another, during which it makes these decisions in total
 abbrev InTakes : {F : Type 0} → (F → List Decision → F → Type 0) → F → List Decision → F → Type 0
 InTakes step old decided new =
     (parts : List (List Decision)) × (FoldsTo step old parts new × (flat_map (λ (part : List Decision). part) parts ≡ decided))
@@ -200,7 +200,7 @@ module _ (laws : TakingLaws) {F : Type 0} (gives : FeedGives F) (core : F → De
             };
       }
 
-  -- a batch that was given behind these may be committed behind them
+  -- a batch that was given after these may be committed after them
   pub may_follow : (s : StoreState) (origin f g : F) (batches : List (List Decision)) (b : List Decision) → Came s origin f batches
       → GivesAll gives f (b ∷ []) g → IsLegalContinuation (store_behind s batches).table (store_behind s batches).seq b
   may_follow s origin f g batches b so (mid, (some, given), rest) =
@@ -232,7 +232,7 @@ module _ (laws : TakingLaws) {F : Type 0} (gives : FeedGives F) (core : F → De
   in_step most untouched failure s origin batches torn f g e so (WasUncommitted ready next given uncommitted behind) =
       not_uncommitted s.failed _ failure e (may_follow s origin f next batches torn so given) uncommitted
 
-  -- the core goes on from a store that has these batches
+  -- the core continues from a store that has these batches
   on_from : (s : StoreState) (t : StoreState) (core : DecisionsState) → t.table ≡ s.table → t.seq ≡ s.seq → IsInStep s core → IsInStep t core
   on_from s t core table seq from = record { table = from.table ∙ sym table; seq = from.seq ∙ sym seq }
 
@@ -310,7 +310,7 @@ module _ (laws : TakingLaws) {D C V : Type 0} (disk : Ghosts D) (effects : V →
   given_away : (calls : List V) × ((flat_map effects calls ≡ effects_of (store_state disk.state old).table (commands_of (batched_decisions is.batches))) × FoldsTo call p calls q)
   given_away = left_in_calls laws effects call (store_state disk.state old).table is.batches p q is.leave
 
-  -- what was decided, where so much is torn
+  -- what was decided, if this is torn
   commits : (decided torn waiting : List Decision) → DecidesMeanwhile f decided g → is.torn ≡ torn → batched_decisions is.batches ++ (torn ++ waiting) ≡ f.core.decisions.log ++ decided
       → ContinueAll f.core.decisions.base (f.core.decisions.opening + f.core.decisions.taken) (f.core.decisions.log ++ decided)
       → CommitsDecided disk.honest effects call (store_state disk.state old) (store_state disk.state new) f g p q
@@ -334,12 +334,12 @@ module _ (laws : TakingLaws) {D C V : Type 0} (disk : Ghosts D) (effects : V →
   abbrev Commits : Type 0
   Commits = CommitsDecided disk.honest effects call (store_state disk.state old) (store_state disk.state new) f g p q
 
-  -- behind the batches nothing is torn, and no other was asked for
+  -- after the batches nothing is torn, and no other was asked for
   untorn : is.torn ≡ [] → g ≡ is.feed → Commits
   untorn none same =
       commits so.decided [] is.feed.core.decisions.log (subst (λ last. DecidesMeanwhile f so.decided last) (sym same) so.takes) none so.parts so.continues
 
-  -- nothing is torn, and another was asked for, behind what came before that
+  -- nothing is torn, and another was asked for, after what came before that
   untorn_asked : (answer : Result (List Decision) Refusal) → is.torn ≡ [] → core_gives is.feed MOST answer g → Commits
   untorn_asked answer none given =
       let told = core_tells is.feed g answer given in

@@ -1,4 +1,4 @@
--- One chain more, or one life more.
+-- One more chain, or one more life.
 use Rattle.std.proofs.Common.{◌≡◌, ◌++◌, ◌<◌, ℕ, List, [], ◌∷◌, Result, Ok, Err, length, map, refl, subst, sym}
 use Rattle.std.specs.Result.{IsErrAnd}
 use Rattle.devices.specs.declared.effect.Effect.{Effect}
@@ -11,7 +11,7 @@ use Rattle.flusher.proofs.Leading.{chains_then}
 use Rattle.flusher_lives.specs.OverLives.{AreFlusherLives, IsFlusherLife, MakeUpTo}
 use Rattle.flusher_lives.specs.declared.over_lives.FlusherLife.{FlusherLife}
 
--- so many chains, and one that was refused
+-- this number of chains, and one that was refused
 pub refused_then : {D F C V : Type 0} (disk : Ghosts D) (gives : FeedGives F) (effects : V → List Effect) (call : C → V → C → Type 0) (most chains : ℕ)
     (old mid new : Store D disk) (p q r : F) (x y z : C) (counts : List ℕ) (result : Result (Unit {0}) Refusal) (e : Refusal)
     → IsErrAnd result (λ answered. answered ≡ e) → length counts < chains
@@ -26,7 +26,7 @@ refused_then disk gives effects call most chains old mid new p q r x y z counts 
       (subst (λ a. IsChain disk gives effects call most mid new q r y z (Err a)) (sym is) chain);
 }
 
--- one life more behind those that there were
+-- one more life after those before
 pub lives_then : {D F C V : Type 0} (disk : Ghosts D) (gives : FeedGives F) (effects : V → List Effect) (call : C → V → C → Type 0)
     (old mid new : D) (p q r : F) (x y z : C) (lives : List FlusherLife) (life : FlusherLife)
     → AreFlusherLives disk gives effects call lives old mid p q x y

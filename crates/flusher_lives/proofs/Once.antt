@@ -12,7 +12,7 @@ use Rattle.flusher.specs.Lives.LifeEvent.{Opened}
 use Rattle.flusher_lives.specs.OverLives.{LeaveOnce}
 use Rattle.flusher.proofs.Leading.{all_then}
 
--- the laws that this stands on
+-- the laws that this uses
 pub record OnceLaws : Type 0 where
   pub part : (t : TableState) (events : List LifeEvent) → IsSubsequence (lives_of t events).left (effects_of t (lives_of t events).durable)
   pub after : (t : TableState) (marks : List Mark) (commands : List Command) → HasUsedUp t marks
@@ -20,13 +20,13 @@ pub record OnceLaws : Type 0 where
   pub what_left : (t : TableState) (marks : List Mark) (effects left : List Effect) → IsSubsequence left effects → HasUsedUp t (marks ++ marks_of effects)
       → HasUsedUp t (marks ++ marks_of left)
 
--- the fold of commands covers what left, where that is part of their effects
+-- the fold of commands covers what left, if that is part of their effects
 used : OnceLaws → (t : TableState) (marks : List Mark) (commands : List Command) (left : List Effect) → HasUsedUp t marks
     → IsSubsequence left (effects_of t commands) → HasUsedUp (fold_of t commands) (marks ++ marks_of left)
 used laws t marks commands left before part =
     laws.what_left (fold_of t commands) marks (effects_of t commands) left part (laws.after t marks commands before)
 
--- lives went on from a disk that holds a table, by which these marks were used up
+-- lives continued from a disk that holds a table, when these marks were used up
 pub leave_once : {C V : Type 0} (effects : V → List Effect) (call : C → V → C → Type 0) → OnceLaws → (t : TableState) (number : ℕ) (marks : List Mark)
     (old disk : State) (p q : C) → HasUsedUp t marks → AreOnDisk no_lives t number old
     → GoOnFrom effects call (λ lives t number. AreOnDisk lives t number old) (λ lives t number. AreOnDisk lives t number disk) p q

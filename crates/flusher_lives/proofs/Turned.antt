@@ -1,4 +1,4 @@
--- What an event of a core does to its decisions: some more are made, and nothing is taken.
+-- What an event of a core does to its decisions: more are made, and nothing is taken.
 use Rattle.std.proofs.Common.{◌≡◌, ◌∙◌, ◌+◌, ℕ, zero, suc, Bool, true, false, List, [], ◌∷◌, ◌++◌, length, Option, Some, None, Result, Ok, Err, MatchBool, sym, ap, subst, refl, arith, rules, append_assoc, length-append}
 use Rattle.std.specs.Prelude.{MatchResult, take}
 use Rattle.std.specs.List.{FoldsTo}
@@ -29,11 +29,12 @@ abbrev pub with_decided : DecisionsState → List Decision → DecisionsState
 with_decided s decided =
     record s { log = s.log ++ decided; made = s.made + length decided }
 
--- these and no others were decided meanwhile, and nothing was taken
+-- exactly these were decided meanwhile, and nothing was taken
 abbrev pub HasDecided : DecisionsState → DecisionsState → Type 0
 HasDecided old new = (decided : List Decision) × (new ≡ with_decided old decided)
 
--- what a take of at most so many answers, and leaves, behind these that were decided since the last
+-- what a take of at most this number returns and leaves, after these that were decided since the
+-- last one
 pub record TakesBehind (old : DecisionsState) (decided : List Decision) (most : ℕ)
     (answer : Result (List Decision) Refusal) (new : DecisionsState) : Type 0 where
   pub lawful : IsLawful (with_decided old decided)
@@ -77,7 +78,7 @@ one old command (Ok done) new k =
     made_of (is_frugal command (step_if_room old command)) (step_if_room old command) (λ s _. Makes old command s new) done
     (λ (s : TableStep) (makes : Makes old command s new). (makes.decision ∷ [], makes.new_is)) k.made
 
--- an outcome is noted beside them
+-- an outcome is also noted
 noted : (s : CoreState) (d : DecisionsState) (r : Result (Unit {0}) Refusal) → (with_outcome s d r).decisions ≡ d
 noted s d (Ok done) = refl
 noted s d (Err OutOfMemory) = refl
@@ -97,7 +98,7 @@ closed (suc n) old new (before, first, closes) =
     (and_then before.decisions closes.between.decisions new.decisions (handled before (commands.Heard hand.heard) closes.result closes.between hand.handled)
     (nothing closes.between.decisions new.decisions (ap (λ (s : CoreState). s.decisions) closes.new_is)))
 
--- a turn, whose own does so
+-- a turn whose own step does so
 module _ (Own : CoreState → Option Refusal → CoreState → Type 0)
     (does : (s : CoreState) (refused : Option Refusal) (new : CoreState) → Own s refused new → HasDecided s.decisions new.decisions) where
   ends : (due : Bool) (s : CoreState) (refused : Option Refusal) (new : CoreState) → MatchBool due (Starves s refused new) (Own s refused new)
@@ -132,7 +133,7 @@ pub heard : (copy : FrameCopy) (old : CoreState) (moment : ℕ) (turn : Turn) (n
     → HasDecided old.decisions new.decisions
 heard copy = turned (Hears copy) (heard_own copy)
 
--- whatever comes to a core
+-- any events that come to a core
 comes : (old : CoreState) (at : ℕ × CoreEvent) (new : CoreState) → Comes old at new → HasDecided old.decisions new.decisions
 comes old (moment, Copy copy) new (turn, is) = heard copy old moment turn new is
 comes old (moment, Provision value) new (turn, is) = asked (commands.Provision value) old moment turn new is
@@ -155,7 +156,7 @@ taken : (between new : CoreState) (most : ℕ) (answer : Result (List Decision) 
 taken between new most (Ok batch) (is, new_is) = (is, ap (λ (s : CoreState). s.decisions) new_is)
 taken between new most (Err e) (is, same) = (is, ap (λ (s : CoreState). s.decisions) same)
 
--- what a core gives behind what came to it, and what it decided of that
+-- what a core gives after what came to it, and what it decided of that
 pub gives_decided : (old new : CoreFeed) (answer : Result (List Decision) Refusal) → GivesBehindComing old MOST answer new
     → (decided : List Decision) × (TakesBehind old.core.decisions decided MOST answer new.core.decisions × DecidesBehindComing old decided new)
 gives_decided old new answer is =

@@ -1,4 +1,4 @@
--- What comes to a core between the takes of a flusher, and what it makes of that.
+-- What comes to a core between the takes of a flusher, and what the core makes of that.
 use Rattle.std.specs.Prelude.{◌≡◌, ◌++◌, ℕ, List, [], ◌∷◌, take, drop, flat_map, Option, Result}
 use Rattle.std.specs.Prelude.{MatchResult, Vec}
 use Rattle.std.specs.Global.{Global}
@@ -17,7 +17,7 @@ use Rattle.flusher_lives.specs.declared.core_feed.CoreEvent.TheVariants.{Copy, P
 use Rattle.flusher_lives.specs.declared.core_feed.CoreEvent.TheVariants.{QueueMac, Tick}
 use Rattle.flusher_lives.specs.declared.core_feed.CoreFeed.{CoreFeed}
 
--- what is an event's own, behind the closings that are due at its moment
+-- what an event itself does, after the closings that are due at its moment
 abbrev pub own_of : CoreEvent → CoreState → Option Refusal → CoreState → Type 0
 own_of (Copy copy) = Hears copy
 own_of (Provision value) = Asks (commands.Provision value)
@@ -55,7 +55,7 @@ pub record DecidesBehindComing (old : CoreFeed) (decided : List Decision) (new :
   pub asked : GivesBehindComing old MOST answer new
   pub logged : asked.between.decisions.log ≡ old.core.decisions.log ++ decided
 
--- it was asked again and again, and these are all the decisions that it made meanwhile, in order
+-- it was asked repeatedly, and these are all the decisions that it made meanwhile, in order
 abbrev pub DecidesMeanwhile : CoreFeed → List Decision → CoreFeed → Type 0
 DecidesMeanwhile old decided new =
     (parts : List (List Decision)) × (FoldsTo DecidesBehindComing old parts new

@@ -15,8 +15,8 @@ use Rattle.flusher_lives.specs.declared.core_feed.CoreEvent.{CoreEvent}
 use Rattle.flusher_lives.specs.declared.core_feed.CoreFeed.{CoreFeed}
 use Rattle.flusher_lives.specs.declared.core_lives.CoreLife.{CoreLife}
 
--- A core began with what the store had, and so many chains were made of what came to it, or fewer,
--- behind which one was refused; or there was no memory for a core.
+-- A core began with what the store had, and this number of chains was made of what came to it, or
+-- fewer, after which one was refused; or there was no memory for a core.
 abbrev pub DecidesUpTo : {D C V : Type 0} (disk : Ghosts D) → (V → List Effect)
     → (C → V → C → Type 0) → List (Vec (ℕ × CoreEvent) Global) → ℕ → ℕ
     → Store D disk → Store D disk → C → C → Result (Unit {0}) Refusal → Type 0

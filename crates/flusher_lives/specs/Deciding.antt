@@ -20,15 +20,15 @@ use Rattle.flusher_lives.specs.declared.core_feed.CoreEvent.{CoreEvent}
 use Rattle.flusher_lives.specs.declared.core_feed.CoreFeed.{CoreFeed}
 use Rattle.flusher_lives.specs.declared.core_lives.CoreLife.{CoreLife}
 
--- what is taken next goes on from what the store has
+-- what is taken next continues from what the store has
 pub record IsInStep (s : StoreState) (core : DecisionsState) : Type 0 where
   pub table : core.base ≡ s.table
   pub seq : core.opening + core.taken ≡ s.seq
 
--- What a store committed of a core's decisions: of those that waited and those that the core made
--- meanwhile, one after another, the first ones. Their effects, complete and in order, were given
--- away in calls. Whatever a crash leaves holds what the store has then, or that with the torn ones,
--- which are the next.
+-- What a store committed of a core's decisions: the first of those that waited and those that the
+-- core made meanwhile, one after another. Their effects, complete and in order, were given away in
+-- calls. Each image that a crash may leave holds what the store then has, or that with the torn
+-- ones, which are the next.
 pub record CommitsDecided {C V : Type 0} (honest : Type 0) (effects : V → List Effect)
     (call : C → V → C → Type 0) (old new : StoreState) (old_feed new_feed : CoreFeed)
     (old_out new_out : C) : Type 0 where
@@ -47,7 +47,7 @@ pub record CommitsDecided {C V : Type 0} (honest : Type 0) (effects : V → List
   pub given : FoldsTo call old_out calls new_out
   pub images : honest → IsSettled old → EveryImage new.log.disk (HoldsWithOrWithout new torn)
 
--- and nothing is torn: what the core has still waits, and goes on from what the store has
+-- and nothing is torn: what the core still has waits, and continues from what the store has
 abbrev pub StaysInStep : {C V : Type 0} → Type 0 → (V → List Effect) → (C → V → C → Type 0)
     → StoreState → StoreState → CoreFeed → CoreFeed → C → C → Type 0
 StaysInStep honest effects call old new old_feed new_feed old_out new_out =
@@ -70,7 +70,7 @@ pub record NumberedTable : Type 0 where
   pub table : TableState
   pub seq : ℕ
 
--- whatever a crash leaves of this disk holds a table of which this is so
+-- each image that a crash may leave of this disk holds a table of which this is true
 abbrev pub EachHolds : State → (NumberedTable → Type 0) → Type 0
 EachHolds disk P =
     EveryImage disk (λ image. (found : NumberedTable)
@@ -112,9 +112,9 @@ HaveDecided {C} effects call lives old new old_out new_out =
     KeepsDecided effects call life.coming.items before.0 after.0 before.1 after.1)
     (old, old_out) lives (new, new_out)
 
--- What lives make of a table all together: the fold of these commands, and what was given away is a
--- part of their effects, in order. Whatever marks were used up before, none stands twice among them
--- and those of what was given away, and the table covers them all then.
+-- What lives together make of a table: the fold of these commands; and what was given away is a
+-- part of their effects, in order. Whatever marks were used up before, no mark is twice among them
+-- and those of what was given away, and the table then covers them all.
 pub record LeaveInAll {C V : Type 0} (effects : V → List Effect) (call : C → V → C → Type 0)
     (old new : NumberedTable) (old_out new_out : C) : Type 0 where
   pub commands : List Command

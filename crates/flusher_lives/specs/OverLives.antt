@@ -32,10 +32,10 @@ pub record IsLeftBy (image : Image) (old at : State) : Type 0 where
   pub settled : IsSettledAt at.content at
 
 -- The disk crashed to this image, or there was no crash; the call with this number was to fail, if
--- any; and the store was opened, or not. An opening is refused by the device exactly where a call
--- failed, and what it leaves holds what the disk did; any other refusal comes before something is
--- written. Behind a call that failed no other is to fail; one that was to fail and did not come is
--- still to come.
+-- any; and the store was opened, or not. An opening is refused by the device exactly if a call
+-- failed, and what it leaves holds what the disk held; any other refusal comes before anything is
+-- written. After a call that failed no other is to fail; one that was to fail and was not yet made
+-- is still to fail.
 pub record IsReopened {D : Type 0} (disk : Ghosts D) (crash : Option Image) (failing : Option ℕ)
     (old : D) (result : Result (Store D disk) (D × Refusal)) : Type 0 where
   pub at : D
@@ -61,12 +61,12 @@ pub record IsReopened {D : Type 0} (disk : Ghosts D) (crash : Option Image) (fai
       × ((disk.state error.0).content ≡ (disk.state at).content))
   pub kept : IfErr result (λ error. HoldsOn (disk.state old) (disk.state error.0))
 
--- how chains that had so many decisions are answered, the last one of which may be refused
+-- the results of chains with these numbers of decisions, the last one of which may be refused
 abbrev pub answers_up_to : List ℕ → Result (Unit {0}) Refusal → List (Result ℕ Refusal)
 answers_up_to counts (Ok done) = map (λ count. Ok count) counts
 answers_up_to counts (Err e) = map (λ count. Ok count) counts ++ Err e ∷ []
 
--- so many chains were made, or fewer, behind which one was refused
+-- this number of chains was made, or fewer, after which one was refused
 pub record MakeUpTo {D F C V : Type 0} (disk : Ghosts D) (gives : FeedGives F)
     (effects : V → List Effect) (call : C → V → C → Type 0) (most chains : ℕ)
     (old new : Store D disk) (old_feed new_feed : F) (old_out new_out : C)
@@ -99,10 +99,10 @@ AreFlusherLives {D} {F} {C} {V} disk gives effects call (life ∷ lives) old new
     × (IsFlusherLife disk gives effects call life old between old_feed feed old_out out
     × AreFlusherLives disk gives effects call lives between new feed new_feed out new_out)))
 
--- What left over all lives that began with this table and number, where these marks had been used
--- up: it was given away in calls, in order. It is all effects of each batch that was released, and
--- part of the effects of the durable commands; and no mark was used up twice. Whatever a crash
--- leaves of this disk holds a table that these lives lead to, and that covers all these marks.
+-- What left over all lives that began with this table and number, if these marks had been used up:
+-- it was given away in calls, in order. It is all effects of each batch that was released, and part
+-- of the effects of the durable commands; and no mark was used up twice. Each image that a crash
+-- may leave of this disk holds a table to which these lives lead and which covers all these marks.
 pub record LeaveOnce {C V : Type 0} (effects : V → List Effect) (call : C → V → C → Type 0)
     (t : TableState) (number : ℕ) (marks : List Mark) (disk : State) (old new : C) : Type 0 where
   pub events : List LifeEvent

@@ -25,7 +25,7 @@ use store::Store;
 pub enum CoreEvent {
     /// A gateway heard a frame.
     Copy(FrameCopy),
-    /// An application asks for this.
+    /// An application's request.
     Provision(Provisioning),
     Queue(Queueing),
     QueueMac(MacQueueing),
@@ -33,12 +33,12 @@ pub enum CoreEvent {
     Tick,
 }
 
-/// What comes between two takes, each at its moment.
+/// What comes between two takes, each item with its moment.
 pub type Coming = Vec<(Moment, CoreEvent)>;
 
 /// A core from which a flusher takes, with what comes to it before each of the takes. This stands
-/// for whatever the threads of a server do that share the core: the flusher sees it at its takes
-/// alone, and between two of them any events may come, in any order.
+/// for anything that the threads of a server do that share the core: the flusher sees the core only
+/// at its takes, and between two of them any events may come, in any order.
 #[derive(Drop)]
 pub struct CoreFeed {
     pub(crate) core: Core,
@@ -90,11 +90,12 @@ fn take_event(core: &mut Core, moment: Moment, event: CoreEvent)
     };
 }
 
-/// A [`chain`] of what a core decides, on the store that its decisions go on from. What the store
-/// has then is the first of them, in order: of those that waited, and of those that the core made
-/// of what came to it before each take. A crash at any moment leaves these, or these and the batch
-/// in doubt, if the chain is refused: that batch has the next ones. The chain is never refused with
-/// `OutOfStep`, since a batch of a core continues what it gave before.
+/// A [`chain`] of what a core decides, on the store from which its decisions continue. What the
+/// store has at the end is the first of these decisions, in order: of those that waited, and of
+/// those that the core made of what came to it before each take. If the chain isn't refused, a
+/// crash after it leaves these. If it is refused, a crash leaves these, or these and the batch in
+/// doubt, which has the next ones. The chain is never refused with `OutOfStep`, since a batch of a
+/// core continues what it gave before.
 pub fn chain_of_core<D: Disk, C: FnMut(Vec<Released>)>(
     store: &mut Store<D>,
     feed: &mut CoreFeed,
@@ -121,7 +122,8 @@ pub fn chain_of_core<D: Disk, C: FnMut(Vec<Released>)>(
         feed.old feed.new out.old out.new) }
     ensures in_step { IfErr result (λ e. e ≢ OutOfStep) }
 
-    // Whatever lives led the store here go on, and what left besides was given to `out`, in order.
+    // The lives that led the store here continue, and what left in addition was given to `out`, in
+    // order.
     ensures lives { D.honest → LeadOn (λ (released : Vec Released Global).
         effects_of_all released.items) (λ before released after. C.step before released tt after)
         (store_state D.state store.old) (store_state D.state store.new) out.old out.new }

@@ -19,35 +19,37 @@ use std::alloc::Global;
 use std::collections::VecDeque;
 use store::Store;
 
-/// A life of a server's store: it is opened, behind a crash or without one, and a core begins with
-/// what it has and decides what comes; a flusher commits it, until the power fails or it ends.
+/// A life of a server's store. The store is opened, after a crash or without one. A core begins
+/// with what it has and decides what comes. A flusher commits these decisions, until the power
+/// fails or it ends.
 #[derive(Drop)]
 pub struct CoreLife {
-    /// What a crash before it left of the disk; or there was none, and the disk is as it was.
+    /// What a crash before this life left of the disk. If there was no crash, the disk is as it
+    /// was.
     pub crash: Option<Image>,
-    /// The call of the disk that fails, counted from the opening's first one; or none does.
+    /// The call of the disk that fails, if any, counted from the opening's first one.
     pub failing: Option<CallNumber>,
     /// What comes to the core before each take.
     pub coming: VecDeque<Coming>,
-    /// How many chains are made, where none is refused.
+    /// The number of chains that are made if none is refused.
     pub chains: u64,
-    /// How many batches each of them has at most.
+    /// The greatest number of batches of each chain.
     pub most: ChainLength,
 }
 
-/// Lives of a store, one after another, on this disk: each begins with an opening, as those of
-/// [`flush_over_lives`](crate::flush_over_lives) do, and in each a new core decides what
-/// comes to it, and chains commit that. Where there is no memory for a core, the life makes no
-/// chain, and where the opening is refused, it has no core. The next life begins with the disk that
-/// it leaves, which comes back at the end.
+/// Lives of a store, one after another, on this disk. Each begins with an opening, as those of
+/// [`flush_over_lives`](crate::flush_over_lives) do. In each a new core decides what comes to it,
+/// and chains commit that. If there is no memory for a core, the life makes no chain; if the
+/// opening is refused, it has no core. The next life begins with the disk that this one leaves. The
+/// last disk is returned.
 ///
 /// The premise: each image that a crash may leave of the disk holds one table and number. Then each
 /// image that a crash may leave at the end holds that table after some commands: of each life, in
 /// order, the first ones that its core decided. That core began with the table and number that the
 /// life found, and decided what came to it. Among these commands are all that were committed, whose
-/// effects were given to `out`, complete and in order; if the power failed, the next ones may be
+/// effects were given to `out`, complete and in order. If the power failed, the next ones may be
 /// among them too. So over all lives `out` got no mark twice, and none that was used up before, if
-/// the first table covers those: and the last table covers them all.
+/// the first table covers those; and the last table covers them all.
 pub fn decide_over_lives<D: Sim, C: FnMut(Vec<Released>)>(
     alloc: Global,
     disk: D,
@@ -123,7 +125,7 @@ fn live<D: Sim, C: FnMut(Vec<Released>)>(alloc: Global, disk: D, life: CoreLife,
     }
 }
 
-// So many chains of what a new core decides, or fewer behind which one is refused.
+// Makes this number of chains of what a new core decides, or fewer if one is refused.
 fn decide<D: Disk, C: FnMut(Vec<Released>)>(
     alloc: Global,
     store: &mut Store<D>,

@@ -1,7 +1,7 @@
-//! What a flusher does over all the lives of its store, crashes among them: no mark leaves twice,
-//! whatever it is fed ([`flush_over_lives`]); and where it is fed what a core decides, what is
-//! decided is kept ([`decide_over_lives`]). No program calls these: they are theorems of
-//! [`flusher::chain`], by which the server commits.
+//! What a flusher does over all the lives of its store, including crashes. No mark leaves twice,
+//! whatever the input is ([`flush_over_lives`]). If the input is what a core decides, what is
+//! decided is kept ([`decide_over_lives`]). No program calls these functions: they are theorems
+//! about [`flusher::chain`], by which the server commits.
 #![tactic(auto)]
 
 mod core_feed;

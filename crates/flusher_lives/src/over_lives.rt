@@ -24,37 +24,38 @@ use lw_types::{NetId, Ranged, Refusal};
 use std::alloc::Global;
 use store::Store;
 
-/// Which call of a disk, from the first one on.
+/// The number of a call of a disk, counted from the first one.
 pub type CallNumber = Ranged<1, { u64::MAX }>;
 
-/// One life of a flusher: its store is opened, behind a crash or without one, and it makes chains,
+/// One life of a flusher: its store is opened, after a crash or without one, and it makes chains,
 /// until the power fails or the flusher ends.
 #[derive(Drop)]
 pub struct FlusherLife {
-    /// What a crash before it left of the disk; or there was none, and the disk is as it was.
+    /// What a crash before this life left of the disk. If there was no crash, the disk is as it
+    /// was.
     pub crash: Option<Image>,
-    /// The call of the disk that fails, counted from the opening's first one; or none does.
+    /// The call of the disk that fails, if any, counted from the opening's first one.
     pub failing: Option<CallNumber>,
-    /// How many chains it makes, where none is refused.
+    /// The number of chains that it makes if none is refused.
     pub chains: u64,
-    /// How many batches each of them has at most.
+    /// The greatest number of batches of each chain.
     pub most: ChainLength,
 }
 
 /// Lives of a flusher, one after another, on this disk and with this feed. Each begins with an
-/// opening, behind a crash or without one, and chains follow; where a chain is refused, the life
-/// makes no other, and where the opening is refused, it makes none. The next life begins with the
-/// disk that it leaves, which comes back at the end: so an opening that was refused is made again,
-/// with the power on or behind a crash.
+/// opening, after a crash or without one, and chains follow. If a chain is refused, the life makes
+/// no other; if the opening is refused, it makes none. The next life begins with the disk that this
+/// one leaves, and the last disk is returned. So an opening that was refused is made again, with
+/// the power on or after a crash.
 ///
-/// Where the disk holds a table and a number, whatever a crash leaves of it: what is given to `out`
-/// over all lives is, in order and complete, the effects of each batch that was released, and part
-/// of those of the durable commands. Of the marks that were used up before, where they are distinct
-/// and that table covers them, and of those of what was given, none stands twice. Whatever a crash
-/// leaves at the end holds a table that these lives lead to and that covers all these marks: so
-/// other lives may follow.
+/// The premise: each image that a crash may leave of the disk holds one table and number, and the
+/// marks that were used up before are distinct and covered by that table. Then what is given to
+/// `out` over all lives is, in order and complete, the effects of each batch that was released, and
+/// part of those of the durable commands. No mark is twice among those that were used up before and
+/// those of what was given. Each image that a crash may leave at the end holds a table to which
+/// these lives lead and which covers all these marks. So other lives may follow.
 ///
-/// A power cut may come in each call of the disk: what it leaves is what a crash may leave where
+/// The power may be cut during any call of the disk: what it leaves is what a crash may leave if
 /// that call fails ([`disk::laws::a_cut_is_a_failed_call`]).
 pub fn flush_over_lives<D: Sim, F: Feed, C: FnMut(Vec<Released>)>(
     alloc: Global,
@@ -72,7 +73,8 @@ pub fn flush_over_lives<D: Sim, F: Feed, C: FnMut(Vec<Released>)>(
         (λ before released after. C.step before released tt after)
         lives.now disk result feed.old feed.new out.old out.new }
 
-    // Whatever lives are on the disk go on, and what left besides was given to `out`, in order.
+    // The lives that are on the disk continue, and what left in addition was given to `out`, in
+    // order.
     ensures lives { GoOnFrom (λ (released : Vec Released Global). effects_of_all released.items)
         (λ before released after. C.step before released tt after)
         (λ lives t number. AreOnDisk lives t number (D.state disk))
@@ -97,7 +99,7 @@ pub fn flush_over_lives<D: Sim, F: Feed, C: FnMut(Vec<Released>)>(
 
 /// Makes a store without devices on this disk, and lives of a flusher on it, as
 /// [`flush_over_lives`] does: no mark was used up before. Refused as [`store::format_back`] is,
-/// before the first life; then the disk comes back, and nothing was taken or given.
+/// before the first life. Then the disk is returned, and nothing was taken or given.
 pub fn flush_new_store<D: Sim, F: Feed, C: FnMut(Vec<Released>)>(
     alloc: Global,
     disk: D,
@@ -165,7 +167,7 @@ fn live<D: Sim, F: Feed, C: FnMut(Vec<Released>)>(
     }
 }
 
-// Lets the disk crash, if it is to, has this call of it fail, and opens the store.
+// Makes the disk crash if it is to, makes this call of it fail, and opens the store.
 pub(crate) fn reopen<D: Sim>(
     alloc: Global,
     disk: D,
@@ -182,7 +184,7 @@ pub(crate) fn reopen<D: Sim>(
     store::open_back(alloc, disk)
 }
 
-// Lets the disk crash to this image, if there is one.
+// Makes the disk crash to this image, if there is one.
 fn crash_to<D: Sim>(disk: &mut D, crash: &Option<Image>)
     ensures left { MatchOption crash.now (D.state disk.new ≡ D.state disk.old)
         (λ image. IsLeftBy image (D.state disk.old) (D.state disk.new)) }
@@ -194,7 +196,7 @@ fn crash_to<D: Sim>(disk: &mut D, crash: &Option<Image>)
     }
 }
 
-// So many chains, or fewer behind which one is refused.
+// Makes this number of chains, or fewer if one is refused.
 fn flush_life<D: Sim, F: Feed, C: FnMut(Vec<Released>)>(
     alloc: Global,
     store: &mut Store<D>,

@@ -10,7 +10,7 @@ use test_stores::devices_under_test::{add, apply, bringing, new_table, provision
 use test_stores::images_under_test::{FRONT, add_batch_of, disk_of};
 use test_stores::stores_under_test::{found, new_store};
 
-// Stored batches, of which a feed gives so many, and then refuses.
+// Stored batches. The feed gives this number of them, and then refuses.
 #[derive(Drop)]
 struct Until {
     left: u64,
@@ -29,7 +29,7 @@ impl Feed for Until {
     }
 }
 
-// A batch of a provisioning that was made of a table without devices.
+// A batch of a provisioning that was made from a table without devices.
 fn stale(alloc: Global) -> Result<Batch, Refusal> {
     let mut batch = Batch::new(alloc)?;
     add(
@@ -42,7 +42,7 @@ fn stale(alloc: Global) -> Result<Batch, Refusal> {
     Ok(batch)
 }
 
-/// A batch of so many provisionings behind the last one, which are put on the table.
+/// A batch of this number of provisionings after the last one, which are put on the table.
 pub fn next_batch(alloc: Global, now: &mut Table, seq: u64, count: u64) -> Result<Batch, Refusal> {
     let batch = provisionings(alloc, now, seq, count)?;
     let mut last = seq;
@@ -53,8 +53,8 @@ pub fn next_batch(alloc: Global, now: &mut Table, seq: u64, count: u64) -> Resul
     Ok(batch)
 }
 
-// Adds a batch for each sign: a digit for one of so many provisionings, behind those before it, and
-// any other for one that is out of step.
+// Appends a batch for each sign: a digit for one of this number of provisionings, after those
+// before it, and any other sign for one that is out of step.
 fn add_batches(
     alloc: Global,
     now: &mut Table,
@@ -82,11 +82,11 @@ pub fn batches(alloc: Global, signs: &str) -> Result<StoredBatches, Refusal> {
     Ok(StoredBatches::new(alloc, batches))
 }
 
-// What a chain answers, and how many provisionings it tells of in each of its calls, by a digit
-// each.
+// The result of a chain, and the number of provisionings that it reports in each of its calls, as a
+// digit each.
 type Chain = (Result<usize, Refusal>, u64);
 
-// What was told so far: the calls, the devices, and whether those were told in order.
+// What was reported so far: the calls, the devices, and whether those came in order.
 #[derive(Drop)]
 struct Told {
     calls: u64,
@@ -130,11 +130,11 @@ fn chained(
     }
 }
 
-// The signs of batches, of which a feed gives so many and then refuses; of how many a chain has at
-// most; and the number of the call of the disk that fails, or 0 where none does.
+// The signs of batches, of which a feed gives this number and then refuses; the greatest number of
+// batches of a chain; and the number of the call of the disk that fails, or 0 if none does.
 type Case = (&'static str, u64, u64, u64);
 
-// What comes of two chains, and how many decisions are durable then.
+// The outcome of two chains, and the number of decisions that are durable then.
 type Chains = (Chain, Chain, u64);
 
 fn chains(
@@ -165,20 +165,20 @@ const FAILS: Result<usize, Refusal> = Err(Refusal::DeviceFailed);
 const CLOSED: Result<usize, Refusal> = Err(Refusal::Failed);
 
 const ENDS: &[(Case, Chains)] = &[
-    // as many batches as there are, and no call of the disk behind the tenth
+    // all the batches, and no call of the disk after the tenth
     (("111", 9, 64, 11), ((Ok(3), 111), (Ok(0), 0), 3)),
     (("214", 9, 64, 10), ((FAILS, 21), (Ok(0), 0), 3)),
-    // as many as it may have
+    // the most that it may have
     (("2111", 9, 2, 0), ((Ok(3), 21), (Ok(2), 11), 5)),
     (("11", 9, 1, 5), ((Ok(1), 1), (FAILS, 0), 1)),
     // an empty batch
     (("101", 9, 64, 0), ((Ok(1), 1), (Ok(1), 1), 2)),
     (("0", 9, 64, 1), ((Ok(0), 0), (Ok(0), 0), 0)),
-    // a batch that is out of step, where the first one is synced alone
+    // a batch that is out of step, when the first one is synced alone
     (("1s1", 9, 64, 0), ((STALE, 1), (Ok(1), 1), 2)),
     (("1s1", 9, 64, 5), ((STALE, 1), (FAILS, 0), 1)),
     (("21s1", 9, 64, 0), ((STALE, 21), (Ok(1), 1), 4)),
-    // and where that sync fails
+    // and when that sync fails
     (("1s1", 9, 64, 4), ((FAILS, 0), (CLOSED, 0), 0)),
     // a feed that refuses in the middle
     (
@@ -195,12 +195,12 @@ fn a_chain_ends_and_what_was_durable_left(rt: HostRuntime) {
     }
 }
 
-// The decisions that are found of what was synced, of what was written, of open gates, and of the
+// The decisions that are found in what was synced, in what was written, in open gates, and in the
 // low eight bits of each place: 3E, 8C and DA, which are closed gates.
 type Found = (u64, u64, u64, u64);
 
 // A call that fails in a chain of three batches of one decision each: how many of them left and are
-// durable, whether a batch is left for a chain behind it, and what is found then.
+// durable, whether a batch is left for a chain after it, and what is found then.
 const FAILURES: &[(u64, u64, bool, Found)] = &[
     // the first one's body, and its sync
     (1, 0, true, (0, 0, 0, 0)),
@@ -231,7 +231,7 @@ fn left(alloc: Global, failing: u64, image: &Image) -> Result<(Chains, u64), Ref
     }
 }
 
-// What comes of the chains, and what is found.
+// The outcome of the chains, and what is found.
 fn failure(alloc: Global, failing: u64) -> Result<(Chains, Found), Refusal> {
     let (chains, old) = left(alloc, failing, &Image::Old)?;
     let (_, new) = left(alloc, failing, &Image::New)?;
@@ -255,9 +255,9 @@ fn one_batch_at_most_is_in_doubt(rt: HostRuntime) {
     }
 }
 
-// A store of a device with a full queue, behind whose journal of 805,443 bytes a checkpoint is due
+// A store of a device with a full queue. After 805,443 bytes of its journal a checkpoint is due
 // with 807,511: a header of 30, and three batches of 64 whole records of 4,047 bytes and one of
-// seven, each behind 15.
+// seven, each after 15.
 fn nearly_full_store(alloc: Global) -> Result<Store<MemDisk>, Refusal> {
     let mut bytes = FRONT.to_vec(alloc)?;
     for (last, count) in [(64, 64), (128, 64), (192, 64), (199, 7)] {
@@ -276,7 +276,7 @@ fn join(alloc: Global, now: &mut Table, seq: u64, dev_nonce: u16) -> Result<Batc
     }
 }
 
-// Adds joins of the device, one a batch, with each DevNonce up to this one.
+// Appends joins of the device, one per batch, with each DevNonce up to this one.
 fn add_joins(
     alloc: Global,
     now: &mut Table,
@@ -297,7 +297,8 @@ fn joins(alloc: Global, store: &Store<MemDisk>, most: u16) -> Result<StoredBatch
     Ok(StoredBatches::new(alloc, batches))
 }
 
-// What three chains of 64 answer over so many joins, and whether there is room behind each.
+// The results of three chains of 64 over this number of joins, and whether there is room after
+// each.
 type Rooms = [(Result<usize, Refusal>, bool); 3];
 
 fn rooms_of(alloc: Global, store: &mut Store<MemDisk>, most: u16) -> Result<Rooms, Refusal> {
@@ -320,8 +321,8 @@ fn rooms(alloc: Global, most: u16) -> Result<(Rooms, u64), Refusal> {
     Ok((rooms, store.seq()))
 }
 
-// Each join takes 63 bytes, so behind 33 of them, with 807,522, there is no room for the largest
-// batch. Then a checkpoint is written, and a chain has as many as it may.
+// Each join takes 63 bytes, so after 33 of them, with 807,522, there is no room for the largest
+// batch. Then a checkpoint is written, and a chain has the most batches that it may have.
 #[test]
 fn a_chain_ends_for_want_of_room(rt: HostRuntime) {
     let wanted = [(Ok(33), false), (Ok(64), true), (Ok(33), true)];

@@ -1,4 +1,4 @@
-// What lives of cores leave, and what the store has behind them.
+// What lives of cores leave, and what the store has after them.
 use crate::over_lives_tests::{calls_of_opening, crash};
 use devices::Command;
 use disk::Image;
@@ -20,8 +20,8 @@ fn provision(alloc: Global, dev_eui: u64) -> Result<Coming, Refusal> {
     Ok(vec![in alloc; (moment, CoreEvent::Provision(value))]?)
 }
 
-// A life behind this crash, or none, in which two devices come, each before a take, and whose nth
-// call of the disk fails, if one does.
+// A life after this crash, or without one, in which two devices come, each before a take, and whose
+// nth call of the disk fails, if one does.
 fn life(
     alloc: Global,
     crash: Option<Image>,
@@ -42,8 +42,8 @@ fn life(
 }
 
 // How many effects leave in a life in whose chain the nth call fails, in one whose opening is
-// refused and in one behind that, and how many devices and which number are found then. The last
-// life brings the devices that the first has lost.
+// refused and in one after that, and how many devices and which number are found then. The last
+// life provisions the devices that the first has lost.
 fn lived(
     alloc: Global,
     failing: u64,
@@ -69,8 +69,8 @@ fn lived(
 }
 
 // Which call of the first life fails (two batches take seven: body; sync; gate; the second's body;
-// sync of both; its gate; sync), whether crashes keep what wasn't synced, or there is none, how
-// many devices are found then, and how many effects had left.
+// sync of both; its gate; sync), whether crashes keep what wasn't synced, or there is no crash, the
+// number of devices that are found then, and the number of effects that had left.
 const ROWS: &[(u64, Option<bool>, u64, usize)] = &[
     (0, Some(false), 2, 2),
     (1, Some(true), 0, 0),

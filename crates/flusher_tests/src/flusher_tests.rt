@@ -14,8 +14,8 @@ use test_stores::devices_under_test::{
 use test_stores::images_under_test::{FRONT, add_batch_of, disk_of};
 use test_stores::stores_under_test::{LEN, new_store, opened};
 
-// Provisionings of so many devices, made of a table without devices, which stays as it is. The
-// DevEUIs are counted down from 2000.
+// Provisionings of this number of devices, made from a table without devices, which stays as it is.
+// The DevEUIs are counted down from 2000.
 fn batch_of(alloc: Global, table: &Table, count: u64) -> Result<Batch, Refusal> {
     let mut batch = Batch::new(alloc)?;
     let mut table = table.copy()?;
@@ -57,7 +57,7 @@ fn committed(
     written.sync(store)?.open_gate(store)?.sync(store)
 }
 
-// A durable batch of so many provisionings.
+// A durable batch of this number of provisionings.
 fn durable(alloc: Global, count: u64) -> Result<Durable, Refusal> {
     durable_on(alloc, &mut new_store(alloc, 64)?, count)
 }
@@ -68,7 +68,7 @@ fn durable_on(alloc: Global, store: &mut Store<MemDisk>, count: u64) -> Result<D
     Ok(Durable::new(committed(alloc, store, batch)?, room))
 }
 
-/// Whether the application 3 is told that the device of this DevEUI has this slot.
+/// Whether this reports to the application 3 that the device of this DevEUI has this slot.
 pub fn is_provisioned(effect: &Effect, slot: u16, dev_eui: u64) -> bool {
     match effect {
         Effect::Report {
@@ -83,7 +83,8 @@ pub fn is_provisioned(effect: &Effect, slot: u16, dev_eui: u64) -> bool {
     }
 }
 
-// How many provisionings are told, where these effects are those of a batch of them, in order.
+// The number of provisionings that are reported, if these effects are those of a batch of them, in
+// order.
 fn count_provisioned(released: &[Released]) -> Option<usize> {
     for (slot, one) in (0..64).zip(released) {
         if !is_provisioned(one.effect(), slot, 2000_u64.saturating_sub(u64::from(slot))) {
@@ -93,8 +94,8 @@ fn count_provisioned(released: &[Released]) -> Option<usize> {
     Some(released.len())
 }
 
-// How many of the provisionings of a batch leave in order. Those of another batch are lost, as at a
-// crash.
+// The number of provisionings of a batch that leave in order. Those of another batch are lost, as
+// at a crash.
 fn leave(alloc: Global, count: u64) -> Result<Option<usize>, Refusal> {
     durable(alloc, count)?.lose();
     let released = durable(alloc, count)?.release();
@@ -111,9 +112,9 @@ fn effects_leave_in_order(rt: HostRuntime) {
 #[derive(Clone, Copy, PartialEq)]
 enum Leaves {
     Nothing,
-    /// Once the effects of so many provisionings, in order.
+    /// Once the effects of this number of provisionings, in order.
     Provisioned(usize),
-    /// Once so many accepts and nothing else.
+    /// Once this number of accepts, and nothing else.
     Accepts(usize),
     /// Anything else.
     Other,
@@ -137,7 +138,7 @@ fn what_leaves(released: &[Released]) -> Leaves {
     }
 }
 
-// A round's answer, and what leaves in it.
+// A round's result, and what leaves in it.
 type Round = (Result<usize, Refusal>, Leaves);
 
 fn round(alloc: Global, store: &mut Store<MemDisk>, feed: &mut impl Feed) -> Round {
@@ -189,16 +190,16 @@ const THREE: Round = (Ok(3), Leaves::Provisioned(3));
 
 const ALL: Round = (Ok(64), Leaves::Provisioned(64));
 
-// Two rounds on a disk whose call of this number fails, or none where it is 0; the second batch is
-// made of the empty table too. How many devices each batch brings, what comes of the rounds, and
-// how many decisions are durable after them.
+// Two rounds on a disk whose call of this number fails, or none if it is 0; the second batch is
+// also made from the empty table. The number of devices of each batch, the outcome of the rounds,
+// and the number of decisions that are durable after them.
 const ROUNDS: &[(u64, (u64, u64), (Round, Round), u64)] = &[
     // an empty batch
     (0, (0, 0), (NOTHING, NOTHING), 0),
     // a batch leaves once
     (0, (3, 1), (THREE, STALE), 3),
     (0, (64, 1), (ALL, STALE), 64),
-    // nothing leaves where the disk fails
+    // nothing leaves if the disk fails
     (1, (3, 3), (FAILED, CLOSED), 0),
     (2, (3, 3), (FAILED, CLOSED), 0),
     (3, (3, 3), (FAILED, CLOSED), 0),
@@ -206,7 +207,7 @@ const ROUNDS: &[(u64, (u64, u64), (Round, Round), u64)] = &[
     (5, (3, 3), (THREE, STALE), 3),
 ];
 
-// Batches that bring so many devices each, all made of one table.
+// Batches that provision this number of devices each, all made from one table.
 fn batches(alloc: Global, table: &Table, counts: (u64, u64)) -> Result<StoredBatches, Refusal> {
     let mut batches = Vec::new(alloc);
     for count in [counts.0, counts.1] {
@@ -215,8 +216,8 @@ fn batches(alloc: Global, table: &Table, counts: (u64, u64)) -> Result<StoredBat
     Ok(StoredBatches::new(alloc, batches))
 }
 
-// What comes of two rounds, and how many decisions are durable after them; each provisioned a
-// device.
+// The outcome of two rounds, and the number of decisions that are durable after them; each
+// provisioned a device.
 fn rounds(
     alloc: Global,
     failing: u64,
@@ -342,8 +343,8 @@ impl Flushed {
     }
 }
 
-// How many accepts leave and how many checkpoints are written, and the last number, where the
-// device has a full queue and joins so many times.
+// The number of accepts that leave, the number of checkpoints that are written, and the last
+// number, if the device has a full queue and joins this number of times.
 fn joins(alloc: Global, most: u16) -> Result<(usize, usize, u64), Refusal> {
     let mut flushed = Flushed::new(new_store(alloc, 8)?)?;
     flushed.queue_and_join(alloc, most)?;
@@ -357,7 +358,7 @@ fn a_store_never_fills(rt: HostRuntime) {
     assert!(rt; joins(rt.alloc(), 20_000) == Ok((20_000, 1, 20_017)));
 }
 
-/// So many entries of the device that joins, with a full queue.
+/// This number of entries of the device that joins, with a full queue.
 pub fn records(alloc: Global, count: u8) -> Result<Vec<u8>, Refusal> {
     let device = busy_joiner(alloc)?;
     let mut bytes = Vec::new(alloc);
@@ -367,7 +368,7 @@ pub fn records(alloc: Global, count: u8) -> Result<Vec<u8>, Refusal> {
     Ok(bytes)
 }
 
-// A store in whose journal there is no room for the largest batch: 200 whole records are there, of
+// A store in whose journal there is no room for the largest batch: it has 200 whole records of
 // 4,047 bytes each.
 fn full_store(alloc: Global) -> Result<Store<MemDisk>, Refusal> {
     let mut bytes = FRONT.to_vec(alloc)?;
@@ -377,8 +378,8 @@ fn full_store(alloc: Global) -> Result<Store<MemDisk>, Refusal> {
     open(alloc, disk_of(alloc, bytes)?)
 }
 
-// What comes of a round that has to write a checkpoint, where a call of the disk fails: its
-// refusal, how many accepts left by it, and whether the store kept its number.
+// The outcome of a round that has to write a checkpoint, if a call of the disk fails: its refusal,
+// the number of accepts that left by it, and whether the store kept its number.
 type Checkpointing = (Option<Refusal>, usize, bool);
 
 fn failing_checkpoint(alloc: Global, call: u64) -> Result<Checkpointing, Refusal> {
@@ -413,7 +414,7 @@ pub fn low_bits(alloc: Global, len: usize) -> Result<Image, Refusal> {
     Ok(Image::Bytes(bytes))
 }
 
-// The number of the store behind such a round, where the disk crashes to this image.
+// The number of the store after such a round, if the disk crashes to this image.
 fn left_by(alloc: Global, call: u64, image: &Image) -> Result<u64, Refusal> {
     let mut flushed = Flushed::new(full_store(alloc)?)?;
     arm(&mut flushed.store, call);
@@ -425,7 +426,7 @@ fn left_by(alloc: Global, call: u64, image: &Image) -> Result<u64, Refusal> {
     Ok(seq)
 }
 
-// The numbers behind a crash to what was synced, to what was written, to open gates, and to the low
+// The numbers after a crash to what was synced, to what was written, to open gates, and to the low
 // eight bits of each place.
 type Left = [u64; 4];
 
@@ -441,9 +442,9 @@ fn left_by_each(alloc: Global, call: u64) -> Result<Left, Refusal> {
     Ok(left)
 }
 
-// The call that fails: four of the checkpoint, and four of the batch behind it. A write that fails
-// may have reached the disk, and a sync that fails leaves what a stop in front of it leaves. The
-// low eight bits of both gates' places, C6 and B3, are closed gates.
+// The call that fails: four of the checkpoint, and four of the batch after it. A write that fails
+// may have reached the disk, and a sync that fails leaves what a stop before it leaves. The low
+// eight bits of both gates' places, C6 and B3, are closed gates.
 const CHECKPOINTED: &[(u64, Left)] = &[
     (1, [200; 4]),
     (2, [200; 4]),

@@ -1,5 +1,5 @@
-//! Tests of the flusher's public calls, and of two batches under way. They stand above the crates
-//! that they test, so that each of these is proved once.
+//! Tests of the flusher's public calls, and of two batches under way. This crate stands above those
+//! that it tests, so that each of these is proved once.
 #![tactic(auto)]
 
 #[cfg(test)]

@@ -1,4 +1,4 @@
-// What leaves over several lives of a flusher, and what is found behind them.
+// What leaves over several lives of a flusher, and what is found after them.
 use crate::chains_tests::batches;
 use crate::flusher_tests::is_provisioned;
 use disk::{Image, Sim};
@@ -10,7 +10,7 @@ use store::{disk_len, open_back};
 use test_stores::devices_under_test::{net_id, slots};
 use test_stores::stores_under_test::{blank, found, new_store};
 
-/// How many calls of the disk the opening of a new store makes.
+/// The number of calls of the disk that the opening of a new store makes.
 pub fn calls_of_opening(alloc: Global) -> Result<u64, Refusal> {
     let mut disk = new_store(alloc, 64)?.close();
     for calls in 0..64 {
@@ -24,7 +24,7 @@ pub fn calls_of_opening(alloc: Global) -> Result<u64, Refusal> {
     Err(Refusal::Damaged)
 }
 
-/// The crash that keeps all that wasn't synced, or none of it; or there is no crash.
+/// The crash that keeps everything that wasn't synced, or nothing of it; or no crash.
 pub fn crash(keeps: Option<bool>) -> Option<Image> {
     match keeps {
         Some(true) => Some(Image::New),
@@ -33,8 +33,8 @@ pub fn crash(keeps: Option<bool>) -> Option<Image> {
     }
 }
 
-// A life of one chain of three batches at most; the number of the call that fails may be 0, where
-// none does.
+// A life of one chain of at most three batches. The number of the call that fails is 0 if none
+// does.
 fn life(crash: Option<Image>, failing: u64) -> Result<FlusherLife, Refusal> {
     let Some(most) = ChainLength::new(3) else {
         return Err(Refusal::Malformed);
@@ -47,7 +47,7 @@ fn life(crash: Option<Image>, failing: u64) -> Result<FlusherLife, Refusal> {
     })
 }
 
-// Behind the digits of the devices that were told of before, those of these provisionings.
+// After the digits of the devices that were reported before, those of these provisionings.
 fn tell(told: u64, released: &[Released]) -> u64 {
     let mut told = told;
     for one in released {
@@ -63,9 +63,9 @@ fn tell(told: u64, released: &[Released]) -> u64 {
     told
 }
 
-// What is told over three lives, of four batches of one device each, and how many devices are found
-// then: in the first one this call of its chain fails, the opening of the second one is refused,
-// and in the third it is made again; before both there is such a crash, or none.
+// What is reported over three lives, of four batches of one device each, and the number of devices
+// that are found then. In the first life this call of its chain fails, the opening of the second
+// one is refused, and in the third it is made again; before both there is such a crash, or none.
 fn over_lives(alloc: Global, failing: u64, keeps: Option<bool>) -> Result<(u64, u64), Refusal> {
     let opening = calls_of_opening(alloc)?;
     let lives = [
@@ -86,9 +86,9 @@ fn over_lives(alloc: Global, failing: u64, keeps: Option<bool>) -> Result<(u64, 
     }
 }
 
-// The call that fails, whether crashes keep what was written, or there is none, the devices told
-// of, and how many are found. The fourth batch is in step where the first three are found; a device
-// that is found and wasn't told of never is.
+// The call that fails, whether crashes keep what was written, or there is none, the devices
+// reported, and the number that is found. The fourth batch is in step if the first three are found;
+// a device that is found and wasn't reported is never reported.
 const LIVES: &[(u64, Option<bool>, u64, u64)] = &[
     (1, Some(true), 0, 0),
     (4, Some(false), 0, 0),

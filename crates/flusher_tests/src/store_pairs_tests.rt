@@ -1,4 +1,4 @@
-// A second batch behind one whose gate is open.
+// A second batch after one whose gate is open.
 use crate::chains_tests::next_batch;
 use disk::MemDisk;
 use lw_types::Refusal;
@@ -8,20 +8,20 @@ use store::Store;
 use test_stores::devices_under_test::{bringing, new_table, provisionings};
 use test_stores::stores_under_test::{found, new_store};
 
-// A batch behind one of two provisionings, on a store that has one.
+// A batch after one of two provisionings, on a store that has one.
 #[derive(Clone, Copy)]
 enum Other {
-    /// Of so many provisionings that continue what the first one leaves.
+    /// One of this number of provisionings that continue what the first one leaves.
     Next(u64),
-    /// Made of the table after it, under the number behind the store's.
+    /// Made from the table after it, under the number after the store's.
     OtherNumber,
-    /// Made of the durable table.
+    /// Made from the durable table.
     OfDurable,
     /// Of a table without devices.
     OfNone,
 }
 
-// A provisioning on this table, under the number behind this one.
+// A provisioning on this table, under the number after this one.
 fn numbered(alloc: Global, table: &Table, seq: u64) -> Result<Batch, Refusal> {
     let mut batch = Batch::new(alloc)?;
     let decision = table.decide(alloc, seq.saturating_add(1), bringing(900)?)?;
@@ -29,7 +29,7 @@ fn numbered(alloc: Global, table: &Table, seq: u64) -> Result<Batch, Refusal> {
     Ok(batch)
 }
 
-// The second batch, behind what the first one leaves.
+// The second batch, after what the first one leaves.
 fn second(
     alloc: Global,
     store: &Store<MemDisk>,
@@ -45,7 +45,7 @@ fn second(
     }
 }
 
-// Commits the first batch, with the second one begun behind its open gate, and given up.
+// Commits the first batch, with the second one begun after its open gate, and given up.
 fn begun_behind(
     alloc: Global,
     store: &mut Store<MemDisk>,
@@ -79,7 +79,7 @@ fn bring_one(alloc: Global, store: &mut Store<MemDisk>) -> Result<(), Refusal> {
     Ok(())
 }
 
-// What the second batch is refused behind a first one of two provisionings, which are put on the
+// The refusal of the second batch after a first one of two provisionings, which are put on the
 // table.
 fn refused(
     alloc: Global,
@@ -92,7 +92,7 @@ fn refused(
     begun_behind(alloc, store, first, second)
 }
 
-// The same on a new store, which gets its first device before.
+// The same on a new store, which first gets its first device.
 fn refused_on(
     alloc: Global,
     store: &mut Store<MemDisk>,
@@ -103,7 +103,7 @@ fn refused_on(
     refused(alloc, store, &mut now, other)
 }
 
-// What the second batch is refused, the number of the store behind the first one, and what is found
+// The refusal of the second batch, the number of the store after the first one, and what is found
 // on its disk.
 type Answer = (Option<Refusal>, u64, (usize, u64));
 

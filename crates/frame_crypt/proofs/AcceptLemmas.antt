@@ -81,7 +81,7 @@ whole_blocks : (n : ℕ) → IsAcceptSize n → n ≡ 1 + 16 * (n / 16)
 whole_blocks n (inl short) = short ∙ sym (ap (λ (k : ℕ). 1 + 16 * (k / 16)) short)
 whole_blocks n (inr long) = long ∙ sym (ap (λ (k : ℕ). 1 + 16 * (k / 16)) long)
 
--- a frame that goes through f and then through g is as before
+-- a frame that goes through f and then through g is unchanged
 through-through : (f g : List ℕ → List ℕ) → Undoes f g → (frame : List ℕ) → IsAccept frame → through g (through f frame) ≡ frame
 through-through f g undoes frame accept =
     let n = length frame / 16 in
@@ -100,7 +100,7 @@ through-through f g undoes frame accept =
     ∙ ap (λ (l : List ℕ). mhdr ++ l) (undone_blocks f g undoes body n [] all (omega arith) ∙ take_all (16 * n) body (omega arith))
     ∙ take-append-drop 1 frame
 
--- the laws of the cipher that this file stands on
+-- the laws of the cipher that this file uses
 pub record CipherLaws : Type 0 where
   pub encrypted_block : (key block : List ℕ) → IsBlock key → IsBlock (ciphertext key block)
   pub decrypted_block : (key block : List ℕ) → IsBlock key → IsBlock block → IsBlock (plaintext key block)

@@ -1,4 +1,4 @@
--- The keystream, and a payload to which its blocks are added one after another.
+-- The keystream, and a payload to which its blocks are added in turn.
 use Rattle.std.proofs.Common.{◌≡◌, ℕ, zero, suc, ◌+◌, ◌-◌, ◌*◌, ◌/◌, ◌^◌, ◌<◌, ◌≤◌, min, List, [], ◌∷◌, ◌++◌, length, take, drop, refl, sym, ap, ◌∙◌, arith, inl, inr, add-one, length-append, length-drop}
 use Rattle.std.proofs.Math.Seq.{take-add}
 use Rattle.std.proofs.lemmas.Bool.{cases_lt}
@@ -82,7 +82,7 @@ crypted-bytes gives key dir addr counter payload is_key all =
     let n : ℕ = (length payload + 15) / 16 in
     xor_bytes payload (keystream key dir addr counter n) all (keystream-bytes gives key dir addr counter n is_key)
 
--- the first bytes of two lists of one length, by where the shorter end falls
+-- the first bytes of two lists of one length, for an end in the first list and for one beyond it
 take-end : (xs : List ℕ) (a e : ℕ) → e ≡ min (length xs) (a + 16) → take (a + 16) xs ≡ take e xs
 take-end xs a e end =
     elim (cases_lt (length xs) (a + 16)) [

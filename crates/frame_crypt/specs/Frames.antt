@@ -12,7 +12,7 @@ abbrev pub direction_byte : Direction → ℕ
 direction_byte Up = 0
 direction_byte Down = 1
 
--- what the blocks A_i and B_0 have in common
+-- the common part of the blocks A_i and B_0
 abbrev pub frame_block : ℕ → Direction → ℕ → ℕ → ℕ → List ℕ
 frame_block first dir addr counter last =
     first ∷ 0 ∷ 0 ∷ 0 ∷ 0 ∷ direction_byte dir

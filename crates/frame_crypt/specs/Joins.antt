@@ -7,12 +7,12 @@ use Rattle.aes128.specs.Cipher.{ciphertext}
 use Rattle.aes128.specs.InverseCipher.{plaintext}
 use Rattle.aes_cmac.specs.Cmac.{cmac}
 
--- the MIC of a Join-Request, and of a Join-Accept before it is sealed: of the MHDR and the fields
+-- the MIC of a Join-Request, and of a Join-Accept before it is sealed, over the MHDR and the fields
 -- after it
 unfoldable pub join_mic : List ℕ → List ℕ → List ℕ
 join_mic key message = take 4 (cmac key message)
 
--- the MHDR, 12 bytes or with a CFList 28, and the MIC
+-- the MHDR, then 12 bytes or with a CFList 28, then the MIC
 abbrev pub IsAcceptSize : ℕ → Type 0
 IsAcceptSize size = (size ≡ 17) ⊎ (size ≡ 33)
 
@@ -26,7 +26,7 @@ each_block cipher bytes (suc n) =
 abbrev pub through : (List ℕ → List ℕ) → List ℕ → List ℕ
 through cipher frame = take 1 frame ++ each_block cipher (drop 1 frame) (length frame / 16)
 
--- a sealed Join-Accept as the device opens it: by the encryption of each block
+-- a sealed Join-Accept as the device opens it: each block is encrypted
 abbrev pub opened_accept : List ℕ → List ℕ → List ℕ
 opened_accept key frame = through (ciphertext key) frame
 
@@ -41,7 +41,7 @@ with_mic key frame =
 abbrev pub sealed_accept : List ℕ → List ℕ → List ℕ
 sealed_accept key frame = through (plaintext key) (with_mic key frame)
 
--- the bytes of a Join-Accept that is sealed, or is to be sealed
+-- the bytes of a Join-Accept, sealed or before it is sealed
 abbrev pub IsAccept : List ℕ → Type 0
 IsAccept frame = IsAcceptSize (length frame) × All (λ byte. byte < 2 ^ 8) frame
 

@@ -27,8 +27,8 @@ fn frame_block(first: u8, dir: Direction, addr: DevAddr, counter: u32, last: u8)
     ]
 }
 
-/// Encrypts the FRMPayload of a data frame in place, or decrypts it, which is the same: `key` is
-/// the NwkSKey on port 0, else the AppSKey, and `counter` the whole frame counter.
+/// Encrypts the FRMPayload of a data frame in place. Decryption is the same operation. `key` is the
+/// NwkSKey on port 0 and the AppSKey on other ports; `counter` is the whole frame counter.
 pub fn crypt_payload(key: &Key, dir: Direction, addr: DevAddr, counter: u32, payload: &mut [u8])
     requires { length payload.old ≤ 242 }
     ensures { payload.new ≡ crypted_payload key.now.0 dir addr.0 counter payload.old }
@@ -43,8 +43,8 @@ pub fn crypt_payload(key: &Key, dir: Direction, addr: DevAddr, counter: u32, pay
     }
 }
 
-/// The MIC of a data frame under the NwkSKey: `message` is all of the frame before its MIC, and
-/// `counter` the whole frame counter.
+/// The MIC of a data frame under the NwkSKey. `message` is all of the frame before its MIC;
+/// `counter` is the whole frame counter.
 pub fn data_mic(key: &Key, dir: Direction, addr: DevAddr, counter: u32, message: &[u8]) -> [u8; 4]
     requires { length message.now ≤ 251 }
     ensures { result ≡ data_mic key.now.0 dir addr.0 counter message.now }

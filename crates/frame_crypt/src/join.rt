@@ -8,8 +8,8 @@ use aes_cmac::cmac;
 use aes128::KeySchedule;
 use lw_types::{JoinNonce, Key, NetId};
 
-/// The MIC of a Join-Request, or of a Join-Accept that is not sealed, under the AppKey: `message`
-/// is all of the frame before its MIC.
+/// The MIC, under the AppKey, of a Join-Request or of a Join-Accept that isn't sealed. `message` is
+/// all of the frame before its MIC.
 pub fn join_mic(key: &Key, message: &[u8]) -> [u8; 4]
     ensures { result ≡ join_mic key.now.0 message.now }
 {
@@ -17,7 +17,7 @@ pub fn join_mic(key: &Key, message: &[u8]) -> [u8; 4]
 }
 
 /// Writes the MIC into the last four bytes of a Join-Accept, and seals all but its first byte under
-/// the AppKey. The device opens it by the encryption of each block.
+/// the AppKey. The device opens it by encrypting each block.
 pub fn seal_accept(key: &Key, frame: &mut [u8])
     requires { IsAcceptSize (length frame.old) }
     ensures { frame.new ≡ sealed_accept key.now.0 frame.old }
@@ -43,7 +43,7 @@ fn seal_block(keys: &KeySchedule, bytes: &mut [u8])
     bytes.copy_from_slice(&block);
 }
 
-/// The NwkSKey and the AppSKey of a join that was granted, under the AppKey.
+/// The NwkSKey and the AppSKey of a granted join, under the AppKey.
 pub fn derive_keys(key: &Key, join_nonce: JoinNonce, net_id: NetId, dev_nonce: u16) -> (Key, Key)
     ensures nwk_skey { result.0.0 ≡ session_key key.now.0 1 join_nonce net_id dev_nonce }
     ensures app_skey { result.1.0 ≡ session_key key.now.0 2 join_nonce net_id dev_nonce }

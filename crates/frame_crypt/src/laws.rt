@@ -5,7 +5,8 @@ ghost use Rattle.lw_types.specs.declared.direction.Direction.{Direction};
 ghost use Rattle.frame_crypt.specs.Frames.{crypted_payload};
 ghost use Rattle.frame_crypt.specs.Joins.{IsAccept, opened_accept, sealed_accept, with_mic};
 
-/// The device opens a sealed Join-Accept, and it opens no other frame to the same.
+/// The device opens a sealed Join-Accept to the frame with its MIC, and opens no other frame to
+/// that.
 pub fn a_sealed_accept_is_opened()
     ensures opened { (key frame : List ℕ) → IsBlock key → IsAccept frame
         → opened_accept key (sealed_accept key frame) ≡ with_mic key frame }
@@ -17,7 +18,7 @@ pub fn a_sealed_accept_is_opened()
     aes128::laws::decryption_undoes_encryption();
 }
 
-/// A payload that is encrypted has as many bytes.
+/// An encrypted payload has the same number of bytes.
 pub fn a_crypted_payload_has_the_length()
     ensures length { (key : List ℕ) (dir : Direction) (addr counter : ℕ) (payload : List ℕ)
         → length (crypted_payload key dir addr counter payload) ≡ length payload }
@@ -29,7 +30,7 @@ pub fn a_crypted_payload_has_the_length()
     aes128::laws::encryption_gives_a_block();
 }
 
-/// To encrypt a payload twice gives it back, so decryption is encryption.
+/// Encrypting a payload twice gives it back, so decryption is the same operation.
 pub fn crypting_twice_gives_the_payload()
     ensures { (key : List ℕ) (dir : Direction) (addr counter : ℕ) (payload : List ℕ)
         → crypted_payload key dir addr counter (crypted_payload key dir addr counter payload)

@@ -15,7 +15,7 @@ const EXAMPLES: [(u128, u128, u128); 2] = [
     ),
 ];
 
-// Whether this is what a block is encrypted to, and what is decrypted to it.
+// Whether this plain block is encrypted to the sealed one, and the sealed one decrypted to it.
 fn is_sealed(key: u128, plain: u128, sealed: u128) -> bool {
     let key = Key(key.to_be_bytes());
     let mut block = plain.to_be_bytes();

@@ -14,7 +14,7 @@ const MESSAGE: [u8; 64] = [
     0xf6, 0x9f, 0x24, 0x45, 0xdf, 0x4f, 0x9b, 0x17, 0xad, 0x2b, 0x41, 0x7b, 0xe6, 0x6c, 0x37, 0x10,
 ];
 
-// How much of the message is meant, and its MAC.
+// How many bytes of the message, and their MAC.
 const EXAMPLES: [(usize, u128); 4] = [
     (0, 0xbb1d6929e95937287fa37d129b756746),
     (16, 0x070a16b46b4d4144f79bdd9dd04a287c),
@@ -22,7 +22,7 @@ const EXAMPLES: [(usize, u128); 4] = [
     (64, 0x51f0bebf7e3b9d92fc49741779363cfe),
 ];
 
-// Whether this is the MAC of so much of the message, wherever it is cut in two.
+// Whether this is the MAC of this many bytes of the message, wherever they are cut in two.
 fn is_mac(len: usize, mac: [u8; 16]) -> bool {
     let Some(message) = MESSAGE.get(..len) else {
         return false;
@@ -49,7 +49,8 @@ fn masked(block: u128, subkey: u128) -> [u8; 16] {
     block
 }
 
-// RFC 4493 §4, subkey generation: a whole last block is masked with K1, and a padded one with K2.
+// RFC 4493 §4, subkey generation: a last block that is whole is masked with K1, a padded one with
+// K2.
 #[test]
 fn the_subkeys_of_the_rfc(rt: HostRuntime) {
     let sealed_zeros = 0x7df76b0c1ab899b33e42f047b91b546f_u128;

@@ -1,5 +1,5 @@
-// The texts of joins, byte for byte, and which texts are none. Frames, keys and MICs were made by
-// Python's `cryptography`.
+// The texts of joins, byte for byte, and texts that are no message. Frames, keys and MICs were made
+// by Python's `cryptography`.
 use backend_json::{answer_text, join_req_text, read_join_ans, read_join_req};
 use join_server::{JoinAsk, JoinRequestBytes, JoinState, RxDelay};
 use lw_types::{DevAddr, Eui, JoinNonce, Key, NetId, Refusal};
@@ -94,8 +94,8 @@ fn a_question_is_written_and_read(rt: HostRuntime) {
     assert!(rt; is_read(rt.alloc(), QUESTION));
 }
 
-// Whether the answer to a question is this text. It grants a session where the state is kept with a
-// new DevNonce.
+// Whether the answer to a question is this text. A new state is returned exactly if the answer
+// grants a session; it has the new DevNonce.
 fn answers(alloc: Global, state: &JoinState, question: &str, answer: &str) -> bool {
     let Ok(read) = read_join_ans(alloc, answer) else {
         return false;
@@ -158,7 +158,7 @@ const CAUSES: &[(u64, u64, Option<u16>, &str, &str)] = &[
     (DEVICE, SERVER, Some(1), SIGNED, DEV_NONCE_USED),
 ];
 
-// What is wrong in the table, a line a row.
+// The rows of the table that are wrong, one line each.
 fn wrong_causes(alloc: Global) -> Result<String, Refusal> {
     let mut wrong = String::new(alloc);
     for (number, (dev_eui, join_eui, dev_nonce, question, wanted)) in CAUSES.iter().enumerate() {
@@ -187,7 +187,7 @@ fn the_last_join_nonce_is_granted_once(rt: HostRuntime) {
     assert!(rt; answers(rt.alloc(), &spent, SIGNED, JOIN_NONCE_SPENT));
 }
 
-// Whether a text is answered as one that is no question, and no state is kept.
+// Whether a text is answered as no question, and no new state is returned.
 fn is_no_question(alloc: Global, text: &str) -> bool {
     match answer_text(alloc, &known_state(), text) {
         Ok((answer, None)) => answer.as_str() == NO_QUESTION,
@@ -205,7 +205,7 @@ const WITHOUT_LIST: &str = concat!(
     r#""ReceiverID":"0102030405060708","RxDelay":1,"SenderID":"00002A","TransactionID":2}"#,
 );
 
-// Beginnings without the list or with another one, and with it.
+// Beginnings of other questions: without the list, with another list, and with this list.
 const OTHER_LISTS: &[&str] = &[
     "{",
     r#"{"CFList":"","#,

@@ -30,7 +30,7 @@ fn text_of(alloc: Global, rebuilt: Rebuilt) -> Result<String, Refusal> {
     Ok(text)
 }
 
-// What is wrong in the table, a line a row.
+// The rows of the table that are wrong, one line each.
 fn wrong_cases(alloc: Global) -> Result<String, Refusal> {
     let mut wrong = String::new(alloc);
     for (number, (last, low, wanted)) in CASES.iter().enumerate() {

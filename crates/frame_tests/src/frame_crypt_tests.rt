@@ -1,5 +1,5 @@
-// An outside frame, and each call against the cipher and the CMAC of the blocks that the standard
-// names.
+// A frame from another implementation, and each call compared with the cipher and the CMAC of the
+// blocks that the standard names.
 ghost use Rattle.std.specs.Prelude.{◌≡◌, length};
 
 use aes_cmac::cmac;
@@ -25,7 +25,7 @@ fn a_frame_of_another_implementation(rt: HostRuntime) {
     assert!(rt; payload == *b"test");
 }
 
-// Whether the MIC is the front of the MAC of this block and the message.
+// Whether the MIC is the beginning of the MAC of this block and the message.
 fn has_mic(direction: Direction, block: &[u8]) -> bool {
     let key = key_of(0x44024241ed4ce9a68c6a8bc055233fd3);
     let message = [7u8; 13];
@@ -102,9 +102,8 @@ fn an_accept_with_a_list_of_channels_is_opened_by_encryption(rt: HostRuntime) {
     assert!(rt; opened(&key, &frame[17..]) == last);
 }
 
-// What the Join-Accept of another implementation has before its MIC, as OpenSSL opens it: MHDR,
-// JoinNonce E5063A, NetID 000013, DevAddr 26012E43, DLSettings 03, RxDelay 01 and a list of
-// channels.
+// The Join-Accept of another implementation before its MIC, as OpenSSL opens it: MHDR, JoinNonce
+// E5063A, NetID 000013, DevAddr 26012E43, DLSettings 03, RxDelay 01 and a list of channels.
 const OPENED: [u8; 29] = [
     0x20, 0x3A, 0x06, 0xE5, 0x13, 0x00, 0x00, 0x43, 0x2E, 0x01, 0x26, 0x03, 0x01, 0x18, 0x4F, 0x84,
     0xE8, 0x56, 0x84, 0xB8, 0x5E, 0x84, 0x88, 0x66, 0x84, 0x58, 0x6E, 0x84, 0x00,

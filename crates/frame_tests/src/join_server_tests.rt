@@ -1,4 +1,5 @@
-// Joins by hand, the request's MIC by `join_mic`: which nonces are granted, and the accept.
+// Joins made by hand, with the request's MIC from `join_mic`: which nonces are granted, and the
+// accept.
 use aes128::encrypt;
 use frame_crypt::join_mic;
 use join_server::{JoinAsk, JoinRequestBytes, JoinState, RxDelay, SealedAccept, answer};
@@ -21,7 +22,7 @@ fn state(app_key: Key, dev_nonce: Option<u16>, join_nonce: u32) -> JoinState {
     }
 }
 
-// A Join-Request of this DevNonce.
+// A Join-Request with this DevNonce.
 fn request(app_key: Key, dev_nonce: u16) -> Option<JoinRequestBytes> {
     let mut request = [0; 23];
     request[..17].copy_from_slice(&NAMES);
@@ -42,7 +43,8 @@ fn ask(dev_nonce: u16) -> Option<JoinAsk> {
     })
 }
 
-// Whether after these nonces, no JoinNonce being 0, this DevNonce is granted the next JoinNonce.
+// Whether, after these nonces, this DevNonce is granted the next JoinNonce. A JoinNonce of 0 means
+// none.
 fn grants(last: Option<u16>, granted: u32, dev_nonce: u16) -> bool {
     let Some(ask) = ask(dev_nonce) else {
         return false;
@@ -64,7 +66,7 @@ fn nonces_grow(rt: HostRuntime) {
     assert!(rt; grants(Some(7), 16_777_214, 65_535));
 }
 
-// The accept that is granted under the JoinNonce above this one.
+// The accept of the grant after this JoinNonce.
 fn accept(app_key: Key, granted: u32, ask: Option<JoinAsk>) -> Option<SealedAccept> {
     match answer(&state(app_key, None, granted), &ask?) {
         Ok((_, grant)) => Some(grant.accept),
@@ -86,7 +88,8 @@ fn opened(key: &Key, accept: &SealedAccept) -> SealedAccept {
 }
 
 // The accept of the first join at slot 0 of the network 00002A: MHDR, JoinNonce 1, NetID, DevAddr
-// 54000001, DLSettings 00, RxDelay 1, the list of channels, and the MIC by Python's `cryptography`.
+// 54000001, DLSettings 00, RxDelay 1, the list of channels, and the MIC from Python's
+// `cryptography`.
 const OPENED: SealedAccept = [
     0x20, 0x01, 0x00, 0x00, 0x2A, 0x00, 0x00, 0x01, 0x00, 0x00, 0x54, 0x00, 0x01, 0x18, 0x4F, 0x84,
     0xE8, 0x56, 0x84, 0xB8, 0x5E, 0x84, 0x88, 0x66, 0x84, 0x58, 0x6E, 0x84, 0x00, 0x07, 0xC5, 0xA9,

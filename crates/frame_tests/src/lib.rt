@@ -1,6 +1,6 @@
-//! Tests of the public calls of what knows of no device: the cryptography, frames, the join
-//! server's texts, MAC commands, counters and the region, a file a crate. They stand above those
-//! crates, so that each of these is proved once.
+//! Tests of the public calls of the crates that know no device: the cryptography, frames, the join
+//! server's texts, MAC commands, counters and the region; one file for each crate. They are in a
+//! crate above those crates, so that each of those is proved once.
 #![tactic(auto)]
 
 #[cfg(test)]

@@ -17,7 +17,7 @@ const REFUSALS: &[(Refusal, u8, &str)] = &[
     (Refusal::CutShort, 52, "the input ends inside a frame"),
 ];
 
-// Whether a text that was made is this one.
+// Whether a text that was made is this text.
 fn is_text(shown: Result<String, AllocError>, wanted: &str) -> bool {
     match shown {
         Ok(text) => text.as_str() == wanted,
@@ -42,7 +42,7 @@ fn are_bytes(read: Result<Vec<u8>, Refusal>, wanted: &[u8]) -> bool {
     }
 }
 
-// Whether the bytes have this text as hex and that one in a line, and are read of both.
+// Whether the bytes have this text as hex and that text in a line, and are read from both.
 fn are_spelled(alloc: Global, bytes: &[u8], hex: &str, field: &str) -> bool {
     is_text(write_hex(alloc, bytes), hex)
         && are_bytes(read_hex(alloc, hex), bytes)
@@ -57,7 +57,7 @@ const SPELLED: &[(&[u8], &str, &str)] = &[
     (&[0, 0x5A, 0xFF], "005AFF", "005AFF"),
 ];
 
-// Whether the longest payload has a text of twice its length, in hex as in a line.
+// Whether the longest payload has a text of twice its length, as hex and in a line.
 fn has_long_text(alloc: Global) -> bool {
     match "A5".repeat(alloc, LONGEST_PAYLOAD) {
         Ok(text) => are_spelled(alloc, &[0xA5; LONGEST_PAYLOAD], &text, &text),
@@ -126,7 +126,7 @@ fn numbers_have_one_text(rt: HostRuntime) {
     assert!(rt; refuses::<i16>(&["32768", "-0", "+1", "-01", "-"]));
 }
 
-// Whether network 42 has this text, and is read of it.
+// Whether network 42 has this text, and is read from it.
 fn network_has(alloc: Global, text: &str) -> bool {
     match NetId::new(42) {
         Some(network) => is_text(network.to_string(alloc), text) && reads(text, network),
@@ -162,7 +162,7 @@ fn debug_shows_bytes_and_no_key(rt: HostRuntime) {
     assert!(rt; is_text(key, "Key(..)"));
 }
 
-// Whether these bytes are kept as they are, where they are a payload.
+// Whether these bytes are kept unchanged, if they are a payload.
 fn are_kept(alloc: Global, bytes: &[u8]) -> Option<bool> {
     let Ok(vector) = Vec::from_slice(alloc, bytes) else {
         return None;
@@ -188,7 +188,7 @@ fn bytes_are_kept(rt: HostRuntime) {
     }
 }
 
-// The number that is made of a number, in a range and in 24 bits.
+// The number that a number becomes, in a range and in 24 bits.
 fn ranged(value: u64) -> Option<u64> {
     Some(Ranged::<3, 5>::new(value)?.get())
 }
@@ -242,7 +242,7 @@ const RECEPTION: Reception = Reception {
     rssi: -95,
 };
 
-// Whether a frame of these bytes is copied whole.
+// Whether the copy of a frame of these bytes is whole.
 fn is_copied(alloc: Global, bytes: &[u8]) -> Result<bool, Refusal> {
     let copy = FrameCopy::new(alloc, RECEPTION, 50_000, bytes)?.copy()?;
     let is_heard = copy.reception == RECEPTION && copy.stamp == 50_000;

@@ -5,8 +5,8 @@ use mac_commands::{
 };
 use std::alloc::Global;
 
-// A command of TS001-1.0.4 §5: its number, and its bytes in an uplink and in a downlink. The
-// payloads are of bytes that are identifiers too.
+// A command of TS001-1.0.4 §5: its number, and its bytes in an uplink and in a downlink. The bytes
+// of the payloads are identifiers as well.
 type Row = (u8, Cid, &'static [u8], &'static [u8]);
 
 const TABLE: &[Row] = &[
@@ -69,7 +69,7 @@ fn are_commands(found: &[MacCommand], wanted: &[(Cid, &[u8])]) -> bool {
     found.len() == count
 }
 
-// Whether the bytes are read as these commands, as far as there.
+// Whether the bytes are read as these commands, up to this place.
 fn is_read(
     alloc: Global,
     direction: Direction,
@@ -83,8 +83,8 @@ fn is_read(
     found.stop == stop && are_commands(&found.commands, wanted)
 }
 
-// Uplinks' commands, what is read of them, and where reading stops: at the end, and where no known
-// command begins.
+// Commands of uplinks, what is read of them, and where reading stops: at the end, or at bytes where
+// no known command begins.
 const READ: &[(&[u8], &[(Cid, &[u8])], usize)] = &[
     (
         &[0x02, 0x03, 0x07, 0x0D],
@@ -106,7 +106,7 @@ fn reading_stops_where_no_known_command_begins(rt: HostRuntime) {
     }
 }
 
-// Whether the command is read whole of its bytes, and none without the last of them.
+// Whether the command is read whole from its bytes, and no command without the last of them.
 fn is_whole(alloc: Global, direction: Direction, cid: Cid, bytes: &[u8]) -> bool {
     let (Some((_, payload)), Some((_, cut))) = (bytes.split_first(), bytes.split_last()) else {
         return false;
@@ -115,8 +115,8 @@ fn is_whole(alloc: Global, direction: Direction, cid: Cid, bytes: &[u8]) -> bool
         && is_read(alloc, direction, cut, &[], 0)
 }
 
-// Whether a downlink's commands are read, so many of them and as far as there, and what was read is
-// written behind AA as it was.
+// Whether a downlink's commands are read, this number of them and up to this place, and whether
+// what was read is written unchanged after AA.
 fn is_written(alloc: Global, bytes: &[u8], count: usize, stop: usize) -> bool {
     let (Ok(found), Ok(mut out)) = (decode_down(alloc, bytes), Vec::from_slice(alloc, &[0xAA]))
     else {
@@ -142,20 +142,20 @@ fn has_lengths(cid: Cid, up: &[u8], down: &[u8]) -> bool {
         && cid.payload_len(Direction::Down) + 1 == down.len()
 }
 
-// Whether a command may be queued where it is one of three kinds.
+// Whether a command may be queued exactly if it is of one of three kinds.
 fn may_be_queued(cid: Cid, down: &[u8]) -> bool {
     let may = matches!(cid, Cid::LinkAdr | Cid::DutyCycle | Cid::DevStatus);
     cid.may_be_queued() == may && are_queueable(down) == may
 }
 
-// Whether a command has its number and its lengths, and may be queued or not.
+// Whether a command has its number and its lengths, and may or may not be queued.
 fn has_row(row: &Row) -> bool {
     let (number, cid, up, down) = *row;
     let is_named = Cid::from_number(number) == Some(cid) && cid.number() == number;
     is_named && has_lengths(cid, up, down) && may_be_queued(cid, down)
 }
 
-// Whether it is read whole both ways, and in a downlink written as it was.
+// Whether it is read whole in both directions, and written unchanged in a downlink.
 fn is_read_and_written(alloc: Global, row: &Row) -> bool {
     let (_, cid, up, down) = *row;
     is_whole(alloc, Direction::Up, cid, up)
@@ -187,12 +187,12 @@ const ROOMS: &[(&[u8], u8, usize)] = &[
     (REQUESTS, 15, 15),
     (REQUESTS, 255, 15),
     (&[], 15, 0),
-    // DevStatusReq, DutyCycleReq, and a LinkADRReq that is cut; an identifier that is not known.
+    // DevStatusReq, DutyCycleReq, and a LinkADRReq that is cut short; an unknown identifier
     (&[0x06, 0x04, 0x0F, 0x03, 0x11], 15, 3),
     (&[0x06, 0x0B, 0x06], 15, 1),
 ];
 
-// What is wrong in the table, a line a row.
+// The rows of the table that are wrong, one line each.
 fn wrong_rooms(alloc: Global) -> Result<String, Refusal> {
     let mut wrong = String::new(alloc);
     for (number, (queue, room, wanted)) in ROOMS.iter().enumerate() {
@@ -213,7 +213,7 @@ fn whole_commands_fit_the_room(rt: HostRuntime) {
     assert!(rt; wrong.is_empty(), "{wrong}");
 }
 
-// LinkADRReq so many times, and these bytes.
+// This number of LinkADRReq, and these bytes.
 fn requests(alloc: Global, count: usize, rest: &[u8]) -> Option<Vec<u8>> {
     let Ok(mut bytes) = [0x03, 0xA5, 0xA5, 0xA5, 0xA5].repeat(alloc, count) else {
         return None;
@@ -224,7 +224,7 @@ fn requests(alloc: Global, count: usize, rest: &[u8]) -> Option<Vec<u8>> {
     }
 }
 
-// Whether 48 commands are read of as many requests and these bytes, and written again.
+// Whether 48 commands are read from as many requests and these bytes, and written again.
 fn are_48(alloc: Global, rest: &[u8]) -> Option<bool> {
     let bytes = requests(alloc, 48, rest)?;
     Some(is_written(alloc, &bytes, 48, 240))
@@ -237,7 +237,8 @@ fn checks(alloc: Global) -> Option<(usize, usize)> {
     Some((found.commands.len(), found.stop))
 }
 
-// All of 240 bytes; all but the last one, which is cut; and those of one byte each in an uplink.
+// All of 240 bytes; all but the last command, which is cut short; and commands of one byte each in
+// an uplink.
 #[test]
 fn many_commands_are_read_and_written(rt: HostRuntime) {
     let alloc = rt.alloc();
@@ -246,8 +247,8 @@ fn many_commands_are_read_and_written(rt: HostRuntime) {
     assert!(rt; checks(alloc) == Some((242, 242)));
 }
 
-// How much of so many requests and these bytes fits a wide room, and whether all of them may be
-// queued.
+// How much of this number of requests and these bytes fits a wide room, and whether all of them may
+// be queued.
 fn queued(alloc: Global, count: usize, rest: &[u8]) -> Option<(usize, bool)> {
     let bytes = requests(alloc, count, rest)?;
     Some((fit15(&bytes, 242), are_queueable(&bytes)))
@@ -270,8 +271,8 @@ fn queues_end_with_a_command(rt: HostRuntime) {
     }
 }
 
-// The commands in an uplink, those that its application is told, and whether a LinkCheckReq is
-// among them.
+// The commands in an uplink, those that are reported to its application, and whether a LinkCheckReq
+// is among them.
 const UPLINKS: &[(&[u8], &[u8], bool)] = &[
     // None; one command; LinkCheckReq twice; DeviceTimeReq.
     (&[], &[], false),
@@ -284,7 +285,7 @@ const UPLINKS: &[(&[u8], &[u8], bool)] = &[
         &[0x03, 0x07, 0x06, 0xFF, 0x14, 0x0A, 0x03],
         false,
     ),
-    // A payload that is an identifier; an identifier that isn't known; a DevStatusAns that is cut.
+    // A payload that is an identifier; an unknown identifier; a DevStatusAns that is cut short.
     (&[0x07, 0x02], &[0x07, 0x02], false),
     (&[0x03, 0x07, 0x0E, 0x02], &[0x03, 0x07], false),
     (&[0x03, 0x07, 0x06, 0x02], &[0x03, 0x07], false),
@@ -293,7 +294,7 @@ const UPLINKS: &[(&[u8], &[u8], bool)] = &[
     (&[0x04; LONGEST_PAYLOAD], &[0x04; LONGEST_PAYLOAD], false),
 ];
 
-// What the application is told of these commands, where it isn't this.
+// What is reported to the application of these commands, if it isn't this.
 fn told_else(alloc: Global, commands: &[u8], wanted: &[u8]) -> Result<Option<String>, Refusal> {
     if commands.len() > LONGEST_PAYLOAD {
         return Err(Refusal::TooLong);
@@ -305,7 +306,7 @@ fn told_else(alloc: Global, commands: &[u8], wanted: &[u8]) -> Result<Option<Str
     Ok(Some(ByteField(told.as_slice()).to_string(alloc)?))
 }
 
-// What is wrong in the table, a line a row.
+// The rows of the table that are wrong, one line each.
 fn wrong_uplinks(alloc: Global) -> Result<String, Refusal> {
     let mut wrong = String::new(alloc);
     for (number, (commands, wanted, asks)) in UPLINKS.iter().enumerate() {

@@ -1,4 +1,4 @@
-// Frames of others, the edges of each length, and each bit that has to be 0.
+// Frames from other implementations, the limits of each length, and each bit that has to be 0.
 use lw_types::{DevAddr, Eui, Refusal, read_hex};
 use phy_payload::{
     Contents, Control, DataFrame, FOpts, FrmPayload, JoinAccept, JoinRequest, Mic, Phy,
@@ -19,7 +19,7 @@ const DOWNLINK: Control = Control::Downlink {
     f_pending: false,
 };
 
-// FOpts and, where there is a port, its payload.
+// FOpts and, if there is a port, its payload.
 fn contents(alloc: Global, f_opts: &[u8], port: Option<u8>, payload: &[u8]) -> Option<Contents> {
     let (Ok(f_opts), Ok(payload)) = (
         Vec::from_slice(alloc, f_opts),
@@ -48,7 +48,7 @@ fn joined(f_opts: FOpts, port: Option<u8>, frm_payload: FrmPayload) -> Option<Co
     Some(Contents::new(f_opts, Some(message)))
 }
 
-// Whether these bytes are written of a frame.
+// Whether these bytes are written for a frame.
 fn is_written(alloc: Global, bytes: &[u8], frame: &Phy) -> bool {
     let mut out = Vec::new(alloc);
     encode(alloc, frame, &mut out).is_ok() && out.as_slice() == bytes
@@ -61,7 +61,7 @@ fn is_read(alloc: Global, bytes: &[u8], frame: &Phy) -> bool {
     }
 }
 
-// Whether these bytes are this frame: each is made of the other.
+// Whether these bytes are this frame: each gives the other.
 fn are_same(alloc: Global, bytes: &[u8], frame: &Phy) -> bool {
     is_read(alloc, bytes, frame) && is_written(alloc, bytes, frame)
 }
@@ -331,7 +331,7 @@ const NO_FRAMES: &[(&[u8], Refusal, &str)] = &[
     ),
 ];
 
-// What is wrong in the table, a line a row.
+// The rows of the table that are wrong, one line each.
 fn wrong_refusals(alloc: Global) -> Result<String, Refusal> {
     let mut wrong = String::new(alloc);
     for (bytes, refusal, case) in NO_FRAMES {
@@ -352,20 +352,20 @@ fn what_is_no_frame_is_refused(rt: HostRuntime) {
     assert!(rt; wrong.is_empty(), "{wrong}");
 }
 
-// An MHDR with zeros behind it.
+// An MHDR with zeros after it.
 fn zeros(mhdr: u8) -> [u8; 257] {
     let mut bytes = [0; 257];
     bytes[0] = mhdr;
     bytes
 }
 
-// What so many bytes from the MHDR on are refused, if anything.
+// How this number of bytes, from the MHDR on, is refused, if it is.
 fn refused(alloc: Global, mhdr: u8, len: usize) -> Option<Option<Refusal>> {
     let zeros = zeros(mhdr);
     Some(decode(alloc, zeros.get(..len)?).err())
 }
 
-// Whether they are a frame, and written again.
+// Whether they are a frame that is written as the same bytes.
 fn is_frame(alloc: Global, mhdr: u8, len: usize) -> bool {
     let zeros = zeros(mhdr);
     let Some(bytes) = zeros.get(..len) else {
@@ -404,7 +404,7 @@ fn the_low_bits_of_an_mhdr_are_0(rt: HostRuntime) {
     }
 }
 
-// The length of the payload in a data frame of so many bytes without FOpts.
+// The length of the payload in a data frame of this number of bytes without FOpts.
 fn payload_len(alloc: Global, len: usize) -> Option<Option<usize>> {
     let zeros = zeros(0x40);
     let Ok(Phy::DataFrame(data)) = decode(alloc, zeros.get(..len)?) else {
@@ -425,7 +425,7 @@ fn data_frames_have_12_to_255_bytes(rt: HostRuntime) {
     }
 }
 
-// MHDRs, lengths from one to another, and what such bytes are refused, if anything.
+// MHDRs, lengths from one to another, and how such bytes are refused, if they are.
 const BY_LENGTH: &[(u8, usize, usize, Option<Refusal>)] = &[
     // Join-Requests and Join-Accepts have their lengths.
     (0x00, 22, 23, Some(Refusal::Malformed)),
@@ -459,7 +459,8 @@ fn frames_have_their_lengths(rt: HostRuntime) {
     }
 }
 
-// Whether a copy of one byte of FOpts and two of payload on port 9 is the same, and comes apart.
+// Whether a copy of one byte of FOpts and two of payload on port 9 is the same, and can be taken
+// apart.
 fn has_parts(alloc: Global) -> Option<bool> {
     let whole = contents(alloc, &[2], Some(9), &[5, 6])?;
     Some(is_copied(&whole) && are_parts(whole))
@@ -488,7 +489,7 @@ fn contents_have_their_parts(rt: HostRuntime) {
     assert!(rt; has_parts(rt.alloc()) == Some(true));
 }
 
-// Whether so many bytes are a payload, and FOpts.
+// Whether this number of bytes is a payload, and FOpts.
 fn parts(alloc: Global, len: usize) -> Option<(bool, bool)> {
     let (Ok(payload), Ok(f_opts)) = (vec![in alloc; 0u8; len], vec![in alloc; 0u8; len]) else {
         return None;
@@ -516,7 +517,7 @@ fn parts_have_their_lengths(rt: HostRuntime) {
 // Bytes that a data frame is filled with.
 const FILLED: [u8; 242] = [0xA5; 242];
 
-// A data frame with so many bytes of FOpts and, where there is a port, of payload.
+// A data frame with this number of bytes of FOpts and, if there is a port, of payload.
 fn data_frame(alloc: Global, f_opts: usize, port: Option<u8>, payload: usize) -> Option<DataFrame> {
     let contents = contents(alloc, FILLED.get(..f_opts)?, port, FILLED.get(..payload)?)?;
     Some(DataFrame {
@@ -529,7 +530,7 @@ fn data_frame(alloc: Global, f_opts: usize, port: Option<u8>, payload: usize) ->
     })
 }
 
-// The length of what is written of a frame behind 7, where that is read again.
+// The length of what is written for a frame after a 7, if it is read again.
 fn len_behind_7(alloc: Global, frame: &Phy) -> Option<usize> {
     let mut out = Vec::new(alloc);
     if out.push(7).is_err() || encode(alloc, frame, &mut out).is_err() {
@@ -561,7 +562,7 @@ fn lengths(
     Some((message, len_behind_7(alloc, &Phy::DataFrame(frame))?))
 }
 
-// A MIC is made of the bytes before it, and frames are written behind what is there.
+// A MIC is made over the bytes before it, and frames are written after what is already there.
 #[test]
 fn each_length_of_f_opts_is_read_again(rt: HostRuntime) {
     for len in 0usize..16 {

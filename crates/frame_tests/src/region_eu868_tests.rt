@@ -25,7 +25,7 @@ fn margin_at(snr: i16, data_rate: u8) -> u8 {
     margin(snr, data_rate)
 }
 
-// What is wrong in the table, a line a row.
+// The rows of the table that are wrong, one line each.
 fn wrong_margins(alloc: Global) -> Result<String, Refusal> {
     let mut wrong = String::new(alloc);
     for (number, (snr, data_rate, wanted)) in MARGINS.iter().enumerate() {
@@ -113,7 +113,7 @@ fn the_channels_are_eight(rt: HostRuntime) {
     assert!(rt; wrong.is_empty(), "{wrong}");
 }
 
-// As another implementation's Join-Accept has it (frame_crypt_tests.rt).
+// As in another implementation's Join-Accept (frame_crypt_tests.rt).
 #[test]
 fn the_list_of_channels_has_16_bytes(rt: HostRuntime) {
     let list = *b"\x18\x4F\x84\xE8\x56\x84\xB8\x5E\x84\x88\x66\x84\x58\x6E\x84\x00";

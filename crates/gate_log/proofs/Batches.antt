@@ -31,14 +31,15 @@ same_body b c s t is_b is_c same =
     let rest = same_front b.entries c.entries s t (ap (λ (h : BatchHead). h.entries_len) head) fronts.1 in
     ((λ i. record { last_sequence = (head i).last_sequence; entry_count = (head i).entry_count; entries = rest.0 i }), rest.1)
 
--- a list of batches that goes on from these: what else it has
+-- the rest of a list of batches that begins with these
 pub record GoesOn (xs : List BatchValue) (rest : List ℕ) (ys : List BatchValue) (tail : List ℕ) : Type 0 where
   pub more : List BatchValue
   pub is : ys ≡ xs ++ more
   pub bytes : rest ≡ open_batches more ++ tail
   pub heads : AreHeads more
 
--- where a list's bytes begin with those of another, and its end is a closed gate, it goes on from the other
+-- if a list's bytes begin with those of another list and its end is a closed gate, it continues the
+-- other list
 pub goes_on : (xs : List BatchValue) (rest : List ℕ) (ys : List BatchValue) (gate : ℕ) (tail : List ℕ) → AreHeads xs → AreHeads ys → gate ≢ OPEN → open_batches xs ++ rest ≡ open_batches ys ++ (gate ∷ tail) → GoesOn xs rest ys (gate ∷ tail)
 goes_on [] rest ys gate tail are_xs are_ys shut same = record { more = ys; is = refl; bytes = same; heads = are_ys }
 goes_on (x ∷ xs) rest [] gate tail are_xs are_ys shut same = absurd (shut (sym (ap (λ (l : List ℕ). get_or l 0 0) same)))
@@ -59,7 +60,7 @@ same_batches xs ys gate other rest tail are_xs are_ys shut other_shut same =
     none [] bytes = refl
     none (b ∷ more) bytes = absurd (shut (ap (λ (l : List ℕ). get_or l 0 0) bytes))
 
--- a damaged batch behind those read so far: the disk has no list of batches
+-- a damaged batch after those read so far: the disk has no list of batches
 pub no_batches : (disk : List ℕ) (end first at : ℕ) (xs : List BatchValue) → AreHeads xs → drop first disk ≡ open_batches xs ++ drop at disk → at ≡ first + length (open_batches xs) → at < length disk → NoBatchAt disk end at → (ys : List BatchValue) → AreBatchesAt disk end first ys → ⊥
 no_batches disk end first at xs are_xs bytes is_at within damaged ys are_ys =
     let on = goes_on xs (drop at disk) ys are_ys.gate are_ys.rest are_xs are_ys.heads are_ys.closed (sym bytes ∙ are_ys.bytes) in
@@ -110,7 +111,7 @@ no_batch_at disk end at h is_open spelled is_head long = record { opened = is_op
         spelled ∙ ap (λ (l : List ℕ). take 14 l) behind ∙ take_at (head_bytes (head_of b)) (b.entries ++ rest) 14 (length-head_bytes (head_of b)) in
         omega (arith, long, ap (λ (k : BatchHead). k.entries_len) (same_head h (head_of b) is_head is same))
 
--- one batch more behind those read so far
+-- one batch more after those read so far
 pub record ReadOn (disk : List ℕ) (first next : ℕ) (xs : List BatchValue) : Type 0 where
   pub bytes : drop first disk ≡ open_batches xs ++ drop next disk
   pub heads : AreHeads xs

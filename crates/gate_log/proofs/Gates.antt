@@ -1,4 +1,4 @@
--- What a write behind a closed gate, or to a gate itself, leaves of an area.
+-- What a write after a closed gate, or to a gate itself, leaves of an area.
 use Rattle.std.proofs.Common.{◌≡◌, ◌≢◌, ◌⊎◌, inl, inr, ◌<◌, ◌≤◌, ℕ, ◌+◌, ◌-◌, List, [], ◌∷◌, ◌++◌, length, get_or, take, drop, refl, sym, ◌∙◌, ap, subst, arith, append_assoc, length-append, take-append-drop}
 use Rattle.std.proofs.lemmas.List.{drop_at, drop_more, take_at}
 use Rattle.std.proofs.lemmas.Bool.{cases_eq}
@@ -8,7 +8,7 @@ use Rattle.gate_log.specs.declared.layout.TheConstants.{OPEN}
 use Rattle.gate_log.specs.Areas.{IsShutArea, IsStaged, bytes_in}
 use Rattle.gate_log.proofs.Slices.{bytes_torn, bytes_written, length-bytes_in}
 
--- a list with a gate behind these bytes
+-- a list with a gate after these bytes
 module _ (before : List ℕ) (gate : ℕ) (tail xs : List ℕ) (is : xs ≡ before ++ (gate ∷ tail)) where
   with_gate : before ++ (gate ∷ tail) ≡ (before ++ gate ∷ []) ++ tail
   with_gate = sym (append_assoc before (gate ∷ []) tail)
@@ -28,7 +28,7 @@ module _ (before : List ℕ) (gate : ℕ) (tail xs : List ℕ) (is : xs ≡ befo
   past : length before < length xs
   past = omega (arith, ap length is, length-append before (gate ∷ tail))
 
-  -- torn behind the gate
+  -- torn after the gate
   torn_behind : (n : ℕ) (ys : List ℕ) → IsTorn (length before + 1) n xs ys → ys ≡ before ++ (gate ∷ drop (length before + 1) ys)
   torn_behind n ys torn =
       sym (take-append-drop (length before + 1) ys)
@@ -59,7 +59,7 @@ module _ (before : List ℕ) (gate : ℕ) (tail xs : List ℕ) (is : xs ≡ befo
       ∙ append_assoc before (byte ∷ []) tail
 
 module _ (area : Area) (before old : List ℕ) (order : area.start ≤ area.end) (within : area.end ≤ length old) where
-  -- a write behind a closed gate
+  -- a write after a closed gate
   pub shut_torn : (at n : ℕ) (new : List ℕ) → IsShutArea area before old → at ≡ area.start + (length before + 1) → IsTorn at n old new → at + n ≤ area.end → IsShutArea area before new
   shut_torn at n new shut place torn fits = record {
     gate = shut.gate;

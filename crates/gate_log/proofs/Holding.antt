@@ -33,7 +33,7 @@ module _ (b : BatchValue) where
   with_batch_in_range : (j : Journal) → IsJournal j → IsHead (head_of b) → IsJournal (with_batch j b)
   with_batch_in_range j is head = record { header = is.header; records = is.records; batches = AreHeads-push j.batches is.batches head }
 
--- areas that share no byte lie one behind the other
+-- areas that share no byte lie one after the other
 pub in_order : (areas : Areas) (size : ℕ) → AreLaidOut areas size → (areas.live.end ≤ areas.other.start) ⊎ (areas.other.end ≤ areas.live.start)
 in_order areas size are = elim (cases_lt areas.other.start areas.live.end) [
   | inl inside ↦ inr (behind inside)
@@ -206,7 +206,7 @@ retired_image c old new h is_open torn = with_other c old h c.areas.other.start 
     older : IsOlder c.journal.header.generation c.areas.other new
     older k has = h.other k (was k has)
 
--- a checkpoint is written behind the other area's closed gate, whole or torn or failed
+-- a checkpoint is written after the other area's closed gate, whole or torn or failed
 pub checkpoint_image : (c : LogContents) (n : ℕ) (old new : List ℕ) → Holds c old → IsShutArea c.areas.other [] old → IsTorn (c.areas.other.start + 1) n old new → c.areas.other.start + 1 + n ≤ c.areas.other.end → Holds c new
 checkpoint_image c n old new h shut torn fits =
     with_other c old h (c.areas.other.start + 1) n new torn (omega arith) fits

@@ -1,4 +1,4 @@
--- What a body behind a gate that isn't synced leaves of a log.
+-- What a body after a gate that isn't synced leaves of a log.
 use Rattle.std.proofs.Common.{◌≡◌, ◌<◌, ◌≤◌, ℕ, ◌+◌, ◌-◌, List, ◌∷◌, [], length, take, drop, inl, inr, refl, sym, ◌∙◌, ap, subst, arith, length-append}
 use Rattle.std.proofs.lemmas.List.{take-take}
 use Rattle.disk.specs.State.{State, NothingOpen, EveryImage, IsWrite, IsTorn, bytes_after_write}
@@ -12,7 +12,7 @@ use Rattle.gate_log.specs.Phases.{IsBegun, IsBodySynced, IsGateWritten, bytes_of
 use Rattle.gate_log.proofs.Holding.{body_image, body_staged, live_within, other_gate_stays, spelling-with_batch}
 use Rattle.gate_log.proofs.Steps.{Keeps, Tears, batch_at_rest, live_end, on_disk, other_on, knows_on, settled_images}
 
--- what is torn is torn in a wider range too
+-- what is torn is also torn in a wider range
 torn_wider : (k at n : ℕ) (xs ys : List ℕ) → k ≤ at → IsTorn at n xs ys → IsTorn k (n + (at - k)) xs ys
 torn_wider k at n xs ys past torn = record {
   same_length = torn.same_length;
@@ -20,7 +20,7 @@ torn_wider k at n xs ys past torn = record {
   after = subst (λ (i : ℕ). drop i ys ≡ drop i xs) (omega (arith, past)) torn.after;
 }
 
--- a write further behind the closed gate
+-- a write further after the closed gate
 body_image_past : (c : LogContents) (at n : ℕ) (old new : List ℕ) → Holds c old → c.areas.live.start + (length (spelling c.journal) + 1) ≤ at → IsTorn at n old new
     → at + n ≤ c.areas.live.end → Holds c new
 body_image_past c at n old new h past torn fits =
@@ -71,7 +71,7 @@ module _ (tears : Tears) (log : LogState) (c : LogContents) (b : BatchValue) (si
         is.other_gate;
   }
 
--- the first of the pair, by itself
+-- the first of the pair alone
 first_of : (log : LogState) (c : LogContents) (b n : BatchValue) (size next_size : ℕ) → IsPaired log c b n size next_size → IsGateWritten log c b size
 first_of log c b n size next_size is = record { holds = is.holds; images = is.images; bytes = is.bytes; knows = is.knows; other_gate = is.other_gate }
 

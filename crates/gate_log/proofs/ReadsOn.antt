@@ -22,7 +22,7 @@ reads_on honest state failures outlook a b c false first second = record {
   armed = λ is. second.armed (first.armed is);
 }
 
--- one call where one of the coming ones fails: it is this one, or a later one
+-- one call when one of the coming ones fails: it is this one, or a later one
 pub armed_call : (before after : Outlook) (succeeded : Bool) → IsForeseen before succeeded after → IsArmed before → MatchBool (not succeeded) (after ≡ AllSucceed) (IsArmed after)
 armed_call Unknown after succeeded foreseen armed = absurd armed
 armed_call AllSucceed after succeeded foreseen armed = absurd armed

@@ -14,7 +14,7 @@ use Rattle.gate_log.proofs.Headers.{header_of, one_header}
 use Rattle.gate_log.proofs.Slices.{bytes_written, length-bytes_in}
 use Rattle.gate_log.proofs.Spelling.{length-header_bytes, piece, same_front}
 
--- a spelling with what stands behind it
+-- a spelling with what stands after it
 flat : (j : Journal) (tail : List ℕ) → spelling j ++ tail ≡ OPEN ∷ (header_bytes j.header ++ (j.records ++ (open_batches j.batches ++ tail)))
 flat j tail =
     ap (λ (l : List ℕ). OPEN ∷ l)
@@ -38,13 +38,13 @@ module _ (area : Area) (disk : List ℕ) (order : area.start + 31 ≤ area.end) 
   ordered : area.start ≤ area.end
   ordered = omega (arith, order)
 
-  -- the disk from the area's start on
+  -- the disk from the area's beginning on
   from_start : drop area.start disk ≡ bytes_in area disk ++ drop area.end disk
   from_start =
       sym (take-append-drop (area.end - area.start) (drop area.start disk))
       ∙ ap (λ (l : List ℕ). bytes_in area disk ++ l) (drop-drop (area.end - area.start) area.start disk ∙ ap (λ (n : ℕ). drop n disk) (omega (arith, order)))
 
-  -- a header in the area stands at its start, and the other way round
+  -- a header in the area stands at its beginning, and the other way round
   pub header_in : (h : Header) → IsHeaderAt disk area.start h → HasHeader area h disk
   header_in h is =
       let behind = drop (area.start + 30) disk in
@@ -74,7 +74,7 @@ module _ (area : Area) (disk : List ℕ) (order : area.start + 31 ≤ area.end) 
   fits_in j held = omega (arith, order, length-bytes_in area disk ordered within, ap length held.shut.bytes, length-append (spelling j) (held.shut.gate ∷ held.shut.free))
 
   module _ (header : Header) (has : HasHeader area header disk) where
-    -- the batches of what an area has are those behind the records
+    -- the batches of what an area has are those after the records
     pub held_batches : (j : Journal) → HoldsIn area j disk → AreBatchesAt disk area.end (area.start + 30 + header.records_len) j.batches
     held_batches j held =
         let tail = held.shut.free ++ drop area.end disk in

@@ -1,4 +1,4 @@
--- The bytes of an area, where a write falls into it or elsewhere.
+-- The bytes of an area when a write falls into it or elsewhere.
 use Rattle.std.proofs.Common.{◌≡◌, ◌⊎◌, inl, inr, ◌<◌, ◌≤◌, ℕ, ◌+◌, ◌-◌, List, [], ◌∷◌, ◌++◌, length, get_or, take, drop, sym, ◌∙◌, ap, arith, append_assoc, length-append, length-take, length-drop, take-append-drop}
 use Rattle.std.proofs.Math.Seq.{take-append-add, drop-append-add}
 use Rattle.std.proofs.lemmas.List.{drop-drop, drop-take, take-take, take-append-le, drop-append-le, take_at, drop_at, get_or-take, get_or-drop, length-take-le}
@@ -6,7 +6,7 @@ use Rattle.disk.specs.State.{IsTorn, bytes_after_write}
 use Rattle.gate_log.specs.declared.layout.Area.{Area}
 use Rattle.gate_log.specs.Areas.{bytes_in}
 
--- a part of a list that lies in a front, or behind a front, which two lists share
+-- a part of a list that lies in a front, or after a front, which two lists share
 early : (s m at : ℕ) (xs ys : List ℕ) → take at xs ≡ take at ys → s + m ≤ at → take m (drop s xs) ≡ take m (drop s ys)
 early s m at xs ys same within =
     sym (drop-take s m xs)
@@ -69,7 +69,7 @@ written_byte disk at byte within =
     ∙ sym (get_or-drop at ((take at disk ++ (byte ∷ [])) ++ rest) 0 0)
     ∙ ap (λ (l : List ℕ). get_or l 0 0) (ap (λ (l : List ℕ). drop at l) (append_assoc (take at disk) (byte ∷ []) rest) ∙ drop_at (take at disk) (byte ∷ rest) at front)
 
--- a disk in three parts: in front of the area, the area, and behind it
+-- a disk in three parts: before the area, the area, and after it
 pub parted : (area : Area) (disk : List ℕ) → area.start ≤ area.end → disk ≡ take area.start disk ++ (bytes_in area disk ++ drop area.end disk)
 parted area disk order =
     let m = area.end - area.start in

@@ -17,7 +17,7 @@ pub length-header_bytes : (h : Header) → length (header_bytes h) ≡ 29
 unfolding header_bytes
 length-header_bytes h = refl
 
--- the bytes from a place on are so many of them, and the rest
+-- the bytes from a place on are this number of bytes and the rest
 pub piece : (n at : ℕ) (xs : List ℕ) → take n (drop at xs) ++ drop (at + n) xs ≡ drop at xs
 piece n at xs = ap (λ (l : List ℕ). take n (drop at xs) ++ l) (sym (drop-drop n at xs)) ∙ take-append-drop n (drop at xs)
 
@@ -42,7 +42,7 @@ header_spelled bytes h size version generation sequence count len =
     ∙ ap (λ (l : List ℕ). get_or bytes 0 0 ∷ l) (piece 8 1 bytes)
     ∙ sym (drop_more bytes 0 0 (omega (arith, size)))
 
--- two lists whose fronts have one length have one front and one rest
+-- two lists whose fronts have the same length have the same front and the same rest
 pub same_front : (xs ys s t : List ℕ) → length xs ≡ length ys → xs ++ s ≡ ys ++ t → (xs ≡ ys) × (s ≡ t)
 same_front [] [] s t size same = (refl, same)
 same_front [] (y ∷ ys) s t size same = absurd (omega arith)
@@ -93,7 +93,7 @@ same_header h k is_h is_k same =
     let len = same_64 h.records_len k.records_len is_h.records_len is_k.records_len fourth.1 in
     λ i. record { version = version i; generation = generation i; sequence = sequence i; record_count = count i; records_len = len i }
 
--- what a read of a gate and the header behind it found
+-- what a read of a gate and the header after it found
 pub header_at : (disk bytes : List ℕ) (at : ℕ) (h : Header) → bytes ≡ take 30 (drop at disk) → at + 30 ≤ length disk → get_or bytes 0 0 ≡ OPEN → header_bytes h ≡ drop 1 bytes → IsHeader h → IsHeaderAt disk at h
 header_at disk bytes at h read within is_open spelled is_header =
     let size : length bytes ≡ 30 = omega (arith, ap length read, length-take 30 (drop at disk), length-drop at disk) in

@@ -38,7 +38,7 @@ knows_on log c disk knows = record { areas = knows.areas; generation = knows.gen
 pub other_on : (log : LogState) (c : LogContents) (disk : State) → get_or disk.content c.areas.other.start 0 ≡ get_or log.disk.content c.areas.other.start 0 → KnowsOther log c → KnowsOther (on_disk log disk) c
 other_on log c disk same knows = subst (λ (gate : ℕ). MatchBool log.other_open (gate ≡ OPEN) (gate ≢ OPEN)) (sym same) knows
 
--- what the content holds and every image is, where nothing is open
+-- what the content holds and every image is if nothing is open
 pub settled_images : Keeps → (c : LogContents) (s : State) → NothingOpen s → Holds c s.content → EveryImage s (Holds c)
 settled_images keeps c s settled holds image permitted = subst (Holds c) (sym (keeps s settled image permitted)) holds
 

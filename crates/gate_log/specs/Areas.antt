@@ -13,7 +13,7 @@ use Rattle.gate_log.specs.Layout.{header_bytes, spelling, with_batch}
 abbrev pub bytes_in : Area → List ℕ → List ℕ
 bytes_in area disk = slice_range disk area.start area.end
 
--- the number of bytes in front of both areas
+-- the number of bytes before both areas
 abbrev pub front_len : Areas → ℕ
 front_len areas = min areas.live.start areas.other.start
 
@@ -34,15 +34,14 @@ IsOpenArea area disk = slice_index disk area.start ≡ OPEN
 abbrev pub IsClosedArea : Area → List ℕ → Type 0
 IsClosedArea area disk = slice_index disk area.start ≢ OPEN
 
--- an area has these bytes in front, and behind them a closed gate, so that whatever follows doesn't
--- count
+-- an area begins with these bytes, and a closed gate follows them, so nothing after that counts
 pub record IsShutArea (area : Area) (before disk : List ℕ) : Type 0 where
   pub gate : ℕ
   pub free : List ℕ
   pub bytes : bytes_in area disk ≡ before ++ (gate ∷ free)
   pub closed : gate ≢ OPEN
 
--- behind that closed gate stand these bytes, and behind them a closed gate again
+-- after that closed gate come these bytes, and then a closed gate again
 pub record IsStaged (area : Area) (before staged disk : List ℕ) : Type 0 where
   pub gate : ℕ
   pub next_gate : ℕ
@@ -51,7 +50,7 @@ pub record IsStaged (area : Area) (before staged disk : List ℕ) : Type 0 where
   pub closed : gate ≢ OPEN
   pub next_closed : next_gate ≢ OPEN
 
--- an area has this header behind its open gate
+-- an area has this header after its open gate
 pub record HasHeader (area : Area) (h : Header) (disk : List ℕ) : Type 0 where
   pub rest : List ℕ
   pub bytes : bytes_in area disk ≡ OPEN ∷ (header_bytes h ++ rest)
@@ -61,7 +60,7 @@ pub record HasHeader (area : Area) (h : Header) (disk : List ℕ) : Type 0 where
 abbrev pub IsOlder : ℕ → Area → List ℕ → Type 0
 IsOlder generation area disk = (h : Header) → HasHeader area h disk → h.generation < generation
 
--- an area has this journal, and behind it a closed gate
+-- an area has this journal, and a closed gate after it
 pub record HoldsIn (area : Area) (j : Journal) (disk : List ℕ) : Type 0 where
   pub shut : IsShutArea area (spelling j) disk
   pub in_range : IsJournal j
@@ -69,7 +68,7 @@ pub record HoldsIn (area : Area) (j : Journal) (disk : List ℕ) : Type 0 where
 -- what a disk with two areas holds
 pub record LogContents : Type 0 where
   pub areas : Areas
-  -- the bytes in front of both areas
+  -- the bytes before both areas
   pub front : List ℕ
   -- the journal of the live one
   pub journal : Journal
@@ -83,7 +82,7 @@ pub record Holds (c : LogContents) (disk : List ℕ) : Type 0 where
   pub live : HoldsIn c.areas.live c.journal disk
   pub other : IsOlder c.journal.header.generation c.areas.other disk
 
--- a disk holds the one or the other
+-- a disk holds one of these two contents
 abbrev pub HoldsOneOf : LogContents → LogContents → List ℕ → Type 0
 HoldsOneOf c d disk = Holds c disk ⊎ Holds d disk
 
@@ -96,7 +95,7 @@ contents_with_batch c b =
 abbrev pub exchanged_areas : Areas → Areas
 exchanged_areas areas = record { live = areas.other; other = areas.live }
 
--- the contents after a checkpoint: it stands in the area that was the other one
+-- the contents after a checkpoint, which stands in the area that was the other one
 abbrev pub contents_with_checkpoint : LogContents → Header → List ℕ → LogContents
 contents_with_checkpoint c header records =
     record {
@@ -106,13 +105,13 @@ contents_with_checkpoint c header records =
       size = c.size;
     }
 
--- a checkpoint that may follow: its numbers have their widths, and its generation is a later one
+-- a checkpoint that may follow: its numbers have their widths, and its generation is later
 pub record MayFollowContents (c : LogContents) (header : Header) (records : List ℕ) : Type 0 where
   pub later : c.journal.header.generation < header.generation
   pub in_range : IsHeader header
   pub len : length records ≡ header.records_len
 
--- what a disk holds in these areas, with this journal in the live one
+-- what a disk holds in these areas if the live one has this journal
 abbrev pub contents_in : Areas → List ℕ → Journal → LogContents
 contents_in areas disk j =
     record { areas = areas; front = take (front_len areas) disk; journal = j; size = length disk }
@@ -123,12 +122,12 @@ pub record IsLiveArea (areas : Areas) (h : Header) (disk : List ℕ) : Type 0 wh
   pub header : HasHeader areas.live h disk
   pub other : IsOlder h.generation areas.other disk
 
--- these are the two areas, in one order or the other
+-- these are the two areas, in either order
 abbrev pub AreOf : Area → Area → Areas → Type 0
 AreOf a b areas =
     (areas ≡ record { live = a; other = b }) ⊎ (areas ≡ record { live = b; other = a })
 
--- none of two areas is the live one: both are closed, or both open with one generation
+-- neither of two areas is the live one: both are closed, or both open with the same generation
 abbrev pub NoLiveArea : Area → Area → List ℕ → Type 0
 NoLiveArea a b disk =
     (IsClosedArea a disk × IsClosedArea b disk)

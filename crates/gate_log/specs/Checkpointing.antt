@@ -41,13 +41,13 @@ pub record IsRetiring (log : LogState) (c : LogContents) : Type 0 where
   pub images : EveryImage log.disk (Holds c)
   pub knows : Knows log c
 
--- the phase knows the generation of the checkpoint, and how far behind its area's gate the first
--- batch's stands
+-- the phase knows the generation of the checkpoint, and the distance from its area's gate to the
+-- first batch's gate
 pub record IsFrontOf (front : CheckpointFront) (header : Header) (records : List ℕ) : Type 0 where
   pub generation : front.generation ≡ header.generation
   pub len : front.len ≡ RECORDS_AT + length records
 
--- behind the other area's closed gate stands a whole checkpoint that may follow, and behind it a
+-- after the other area's closed gate stands a whole checkpoint that may follow, and after that a
 -- closed gate
 pub record StagesCheckpoint (log : LogState) (c : LogContents) (header : Header) (records : List ℕ)
     (front : CheckpointFront) : Type 0 where
@@ -56,7 +56,8 @@ pub record StagesCheckpoint (log : LogState) (c : LogContents) (header : Header)
   pub is_front : IsFrontOf front header records
   pub knows : Knows log c
 
--- the checkpoint is written, and whatever a crash leaves holds the contents from before it
+-- the checkpoint is written, and each image that a crash may leave holds the contents from before
+-- it
 pub record IsCheckpointWritten (log : LogState) (c : LogContents) (header : Header)
     (records : List ℕ) (front : CheckpointFront) : Type 0 where
   pub stages : StagesCheckpoint log c header records front
@@ -69,7 +70,8 @@ pub record IsCheckpointSynced (log : LogState) (c : LogContents) (header : Heade
   pub settled : NothingOpen log.disk
   pub holds : Holds c log.disk.content
 
--- its gate is open, and whatever a crash leaves holds the contents from before it or the checkpoint
+-- its gate is open, and each image that a crash may leave holds the contents from before it or the
+-- checkpoint
 pub record IsCheckpointOpened (log : LogState) (c : LogContents) (header : Header)
     (records : List ℕ) (front : CheckpointFront) : Type 0 where
   pub holds : Holds (contents_with_checkpoint c header records) log.disk.content

@@ -1,4 +1,5 @@
--- What the bytes of an area say: a checkpoint, and batches behind it, each behind its gate.
+-- What the bytes of an area say: a checkpoint and the batches after it, each with its gate in
+-- front.
 use Rattle.std.specs.Prelude.{◌≡◌, ◌<◌, ◌≤◌, ◌^◌, ℕ, ◌+◌, List, [], ◌∷◌, ◌++◌, length}
 use Rattle.std.specs.Int.{to_be_bytes, w16, w32, w64}
 use Rattle.gate_log.specs.declared.layout.Area.{Area}
@@ -12,7 +13,7 @@ pub record BatchValue : Type 0 where
   pub entry_count : ℕ
   pub entries : List ℕ
 
--- what a live area has: a checkpoint, and the batches behind it
+-- what a live area has: a checkpoint, and the batches after it
 pub record Journal : Type 0 where
   pub header : Header
   pub records : List ℕ
@@ -40,11 +41,11 @@ head_of b =
       entry_count = b.entry_count;
     }
 
--- what stands behind a batch's gate
+-- what follows a batch's gate
 abbrev pub body : BatchValue → List ℕ
 body b = head_bytes (head_of b) ++ b.entries
 
--- batches, each behind its open gate
+-- batches, each after its open gate
 abbrev pub open_batches : List BatchValue → List ℕ
 open_batches [] = []
 open_batches (b ∷ batches) = OPEN ∷ (body b ++ open_batches batches)
@@ -61,7 +62,7 @@ pub record IsHeader (h : Header) : Type 0 where
   pub record_count : h.record_count < 2 ^ 32
   pub records_len : h.records_len < 2 ^ 64
 
--- the records that a header speaks of fit the area, with the gate behind them
+-- the records of which a header gives the length fit the area, with the gate after them
 abbrev pub HasRoomFor : Area → Header → Type 0
 HasRoomFor area h = area.start + EMPTY_AREA_LEN + h.records_len ≤ area.end
 
@@ -74,7 +75,7 @@ abbrev pub AreHeads : List BatchValue → Type 0
 AreHeads [] = Unit {0}
 AreHeads (b ∷ batches) = IsHead (head_of b) × AreHeads batches
 
--- each number has its width, and the header tells the length of the records
+-- each number has its width, and the header gives the length of the records
 pub record IsJournal (j : Journal) : Type 0 where
   pub header : IsHeader j.header
   pub records : length j.records ≡ j.header.records_len

@@ -34,7 +34,7 @@ log_state state log =
       other_open = log.other_open;
     }
 
--- nothing but the disk changes
+-- only the disk changes
 abbrev pub OnlyDiskChanges : LogState → LogState → Type 0
 OnlyDiskChanges old new =
     new ≡ record {
@@ -45,14 +45,14 @@ OnlyDiskChanges old new =
       other_open = old.other_open;
     }
 
--- exactly one call of a log's disk: an error comes exactly where it failed, and it is the next of
--- those foreseen
+-- exactly one call of a log's disk: an error is returned exactly if the call failed, and the call
+-- is the next one that was foreseen
 pub record IsOneLogCall {D : Type 0} {g : _} {T : Type 0} (failures : D → ℕ) (outlook : D → Outlook)
     (old new : Log D g) (result : Result T DeviceFailed) : Type 0 where
   pub cause : HasCause (failures old.disk) (failures new.disk) result
   pub foreseen : IsForeseen (outlook old.disk) (is_ok result) (outlook new.disk)
 
--- several calls, of which only the last one may have failed: an error comes exactly where it did
+-- several calls, of which only the last one may have failed: an error is returned exactly if it did
 pub record AreLogCalls {D : Type 0} {g : _} {T : Type 0} (failures : D → ℕ) (outlook : D → Outlook)
     (old new : Log D g) (result : Result T DeviceFailed) : Type 0 where
   pub cause : HasCause (failures old.disk) (failures new.disk) result
@@ -61,13 +61,13 @@ pub record AreLogCalls {D : Type 0} {g : _} {T : Type 0} (failures : D → ℕ) 
   pub armed : IsArmed (outlook old.disk) → MatchResult result
       (λ _. IsArmed (outlook new.disk)) (λ _. outlook new.disk ≡ AllSucceed)
 
--- the log knows which area is live, of what generation, and where the next batch's gate stands
+-- the log knows which area is live, its generation, and where the next batch's gate stands
 pub record Knows (log : LogState) (c : LogContents) : Type 0 where
   pub areas : log.areas ≡ c.areas
   pub generation : log.generation ≡ c.journal.header.generation
   pub next : log.next ≡ c.areas.live.start + length (spelling c.journal)
 
--- whether the other area's gate is open, as the log has it, is so
+-- the log has it right whether the other area's gate is open
 abbrev pub KnowsOther : LogState → LogContents → Type 0
 KnowsOther log c =
     MatchBool log.other_open (IsOpenArea c.areas.other log.disk.content)

@@ -1,4 +1,4 @@
--- What is printed of an error.
+-- What is printed for an error.
 use Rattle.std.specs.Prelude.{ℕ, List, codes}
 use Rattle.gate_log.specs.declared.error.RecoverError.{RecoverError}
 use Rattle.gate_log.specs.declared.error.RecoverError.TheVariants.{Device, OutOfMemory, Damaged}

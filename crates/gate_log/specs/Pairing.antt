@@ -6,16 +6,16 @@ use Rattle.gate_log.specs.Areas.{LogContents, Holds, HoldsOneOf, IsStaged, conte
 use Rattle.gate_log.specs.Layout.{BatchValue, IsHead, body, head_of, spelling}
 use Rattle.gate_log.specs.Log.{Knows, KnowsOther, LogState}
 
--- how far behind each batch's gate the next one stands
+-- the number of bytes from each batch's gate to the next one
 abbrev pub paired_size : Paired → ℕ
 paired_size phase = phase.size
 
 abbrev pub paired_next_size : Paired → ℕ
 paired_next_size phase = phase.next_size
 
--- The gate of one batch is open, and behind that batch stands the next one behind its closed gate.
--- Whatever a crash leaves holds the contents with the first batch or without it, and never the
--- second.
+-- The gate of one batch is open, and after that batch stands the next one with its gate closed.
+-- Each image that a crash may leave holds the contents with the first batch or without it, and
+-- never the second batch.
 pub record IsPaired (log : LogState) (c : LogContents) (b n : BatchValue)
     (size next_size : ℕ) : Type 0 where
   pub staged : IsStaged c.areas.live (spelling (contents_with_batch c b).journal) (body n)

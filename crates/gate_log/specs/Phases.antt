@@ -10,7 +10,7 @@ use Rattle.gate_log.specs.Areas.{LogContents, Holds, HoldsOneOf, IsStaged, conte
 use Rattle.gate_log.specs.Layout.{BatchValue, IsHead, body, head_of, spelling}
 use Rattle.gate_log.specs.Log.{Knows, KnowsOther, LogState}
 
--- the bytes of a batch that is begun: its body, and a closed gate behind it
+-- the bytes of a batch that is begun: its body and the closed gate after it
 abbrev pub bytes_of : Begun → List ℕ
 bytes_of begun = begun.bytes.items
 
@@ -20,7 +20,7 @@ pub record IsBegun (begun : Begun) (b : BatchValue) : Type 0 where
   pub closed : gate ≢ OPEN
   pub head : IsHead (head_of b)
 
--- how far behind the batch's gate the next one stands
+-- the number of bytes from the batch's gate to the next one
 abbrev pub written_size : Written → ℕ
 written_size phase = phase.size
 
@@ -30,8 +30,7 @@ body_synced_size phase = phase.size
 abbrev pub gate_written_size : GateWritten → ℕ
 gate_written_size phase = phase.size
 
--- behind the closed gate of the next batch stands a whole batch of this size, and behind that a
--- closed gate
+-- after the closed gate of the next batch stands a whole batch of this size, and then a closed gate
 pub record StagesBatch (log : LogState) (c : LogContents) (b : BatchValue) (size : ℕ) : Type 0 where
   pub staged : IsStaged c.areas.live (spelling c.journal) (body b) log.disk.content
   pub head : IsHead (head_of b)
@@ -39,7 +38,8 @@ pub record StagesBatch (log : LogState) (c : LogContents) (b : BatchValue) (size
   pub knows : Knows log c
   pub other_gate : KnowsOther log c
 
--- the batch's body is written, and whatever a crash leaves holds the contents without the batch
+-- the batch's body is written, and each image that a crash may leave holds the contents without the
+-- batch
 pub record IsWritten (log : LogState) (c : LogContents) (b : BatchValue) (size : ℕ) : Type 0 where
   pub stages : StagesBatch log c b size
   pub images : EveryImage log.disk (Holds c)
@@ -51,7 +51,8 @@ pub record IsBodySynced (log : LogState) (c : LogContents) (b : BatchValue)
   pub settled : NothingOpen log.disk
   pub holds : Holds c log.disk.content
 
--- the gate is open, and whatever a crash leaves holds the contents with the batch or without it
+-- the gate is open, and each image that a crash may leave holds the contents with the batch or
+-- without it
 pub record IsGateWritten (log : LogState) (c : LogContents) (b : BatchValue)
     (size : ℕ) : Type 0 where
   pub holds : Holds (contents_with_batch c b) log.disk.content

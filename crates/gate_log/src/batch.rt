@@ -1,4 +1,4 @@
-// A batch as the log gives it back.
+// A batch as the log returns it.
 ghost use Rattle.std.specs.Prelude.{◌≡◌};
 
 use std::marker::Model;
@@ -10,7 +10,7 @@ pub struct Batch {
     entries: Vec<u8>,
 }
 
-// By hand, so that its proof is done once: a derived drop is proved anew wherever a value goes.
+// Implemented by hand, so that its proof is done once: a derived drop is proved anew at each use.
 impl Drop for Batch {
     fn drop(self) {
         let Self {

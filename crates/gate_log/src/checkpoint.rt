@@ -17,7 +17,7 @@ use crate::log::Log;
 use disk::{DeviceFailed, Disk};
 use std::alloc::{AllocError, Global};
 
-/// An other area whose gate is being closed.
+/// The other area while its gate is being closed.
 pub struct Retiring {}
 
 /// A checkpoint of which nothing is written yet.
@@ -27,25 +27,25 @@ pub struct Checkpoint {
     generation: u64,
 }
 
-/// What a checkpoint will be live with.
+/// What the log takes over once this checkpoint is live.
 #[derive(Clone, Copy)]
 pub(crate) struct CheckpointFront {
     pub(crate) generation: u64,
-    // How far behind the area's gate that of the first batch stands.
+    // The number of bytes from the area's gate to the gate of the first batch.
     pub(crate) len: u64,
 }
 
-/// A checkpoint that is written, and may be torn.
+/// A checkpoint that is written and not synced, so a crash may tear it.
 pub struct CheckpointWritten {
     front: CheckpointFront,
 }
 
-/// A checkpoint that is on the disk, behind its closed gate.
+/// A checkpoint that is on the disk. Its gate is closed.
 pub struct CheckpointSynced {
     front: CheckpointFront,
 }
 
-/// A checkpoint whose gate is open, and may be torn.
+/// A checkpoint whose gate is open. That write isn't synced, so a crash may tear it.
 pub struct CheckpointOpened {
     front: CheckpointFront,
 }
@@ -97,15 +97,15 @@ impl Retiring {
         Ok(())
     }
 
-    /// Lets it go, at a crash.
+    /// Drops it at a crash.
     pub fn lose(self) {
         let Self {} = self;
     }
 }
 
 impl Checkpoint {
-    /// Room for a header, to which `records_len` bytes of records are appended: with them and the
-    /// gate behind them it takes no more memory.
+    /// Room for a header, after which the caller appends `records_len` bytes of records. Appending
+    /// them and the gate after them takes no more memory.
     pub fn buffer(alloc: Global, records_len: usize) -> Result<Vec<u8>, AllocError>
         requires { EMPTY_AREA_LEN + records_len < 2 ^ 64 }
         ensures len { IfOk result (λ bytes. length bytes.items ≡ Header.LEN) }
@@ -116,9 +116,9 @@ impl Checkpoint {
         Ok(bytes)
     }
 
-    /// A checkpoint with this header and the records that stand behind a buffer's room for it. All
-    /// the memory that its phases need is taken here, and none where the buffer has room for one
-    /// byte more.
+    /// A checkpoint with this header, and with the records that follow a buffer's room for the
+    /// header. All the memory that its phases need is allocated here: none if the buffer has room
+    /// for one byte more.
     pub fn new(buffer: Vec<u8>, header: Header) -> Result<Checkpoint, AllocError>
         requires { Header.LEN ≤ length buffer.items }
         ensures checkpoint { IfOk result
@@ -167,7 +167,7 @@ impl Checkpoint {
         })
     }
 
-    /// Lets the checkpoint go, at a crash.
+    /// Drops the checkpoint at a crash.
     pub fn lose(self) {
         let Checkpoint {
             bytes: _,
@@ -177,7 +177,7 @@ impl Checkpoint {
 }
 
 impl<D: Disk> Log<D> {
-    // Closes the other area's gate where it is open, and syncs that.
+    // Closes the other area's gate if it is open, and syncs that.
     fn shut_other(&mut self) -> Result<(), DeviceFailed>
         ensures closed { OnOk result ((log_state D.state self.new).other_open ≡ false) }
         ensures rest { D.honest → (c : LogContents) → IsAtRest (log_state D.state self.old) c
@@ -197,7 +197,7 @@ impl<D: Disk> Log<D> {
 }
 
 impl Checkpoint {
-    /// Makes all calls of a checkpoint, one after another, up to the first that fails.
+    /// Makes all calls of a checkpoint, one after another, up to the first one that fails.
     pub fn publish<D: Disk>(self, log: &mut Log<D>) -> Result<(), DeviceFailed>
         requires { (log_state D.state log.old).areas.other.start + length (checkpoint_bytes self)
             < (log_state D.state log.old).areas.other.end }
@@ -226,7 +226,7 @@ impl Checkpoint {
         }
     }
 
-    // The four calls, where the other area's gate is closed.
+    // The four calls when the other area's gate is closed.
     fn write_and_open<D: Disk>(self, log: &mut Log<D>) -> Result<(), DeviceFailed>
         requires { (log_state D.state log.old).areas.other.start + length (checkpoint_bytes self)
             < (log_state D.state log.old).areas.other.end }
@@ -278,7 +278,7 @@ impl CheckpointWritten {
         Ok(CheckpointSynced { front })
     }
 
-    /// Lets the checkpoint go, at a crash.
+    /// Drops the checkpoint at a crash.
     pub fn lose(self) {
         let CheckpointWritten { front: _ } = self;
     }
@@ -309,14 +309,14 @@ impl CheckpointSynced {
         Ok(CheckpointOpened { front })
     }
 
-    /// Lets the checkpoint go, at a crash.
+    /// Drops the checkpoint at a crash.
     pub fn lose(self) {
         let CheckpointSynced { front: _ } = self;
     }
 }
 
 impl CheckpointOpened {
-    /// Syncs the checkpoint's gate. Afterwards its area is the live one.
+    /// Syncs the checkpoint's gate. After that its area is the live one.
     pub fn sync<D: Disk>(self, log: &mut Log<D>) -> Result<(), DeviceFailed>
         requires { (log_state D.state log.old).areas.other.start + (opened_front self).len
             < (log_state D.state log.old).areas.other.end }
@@ -354,7 +354,7 @@ impl CheckpointOpened {
         Ok(())
     }
 
-    /// Lets the checkpoint go, at a crash.
+    /// Drops the checkpoint at a crash.
     pub fn lose(self) {
         let CheckpointOpened { front: _ } = self;
     }

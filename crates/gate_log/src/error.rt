@@ -9,11 +9,12 @@ use std::fmt;
 /// Why an area is not recovered.
 #[derive(Clone, Copy, Debug, PartialEq, Eq)]
 pub enum RecoverError {
-    /// A read failed.
+    /// A read of the disk failed.
     Device,
-    /// Memory was refused.
+    /// Memory ran out.
     OutOfMemory,
-    /// The area is closed, or its records or an open batch with the gate behind it pass its end.
+    /// The area's gate is closed, or its records, or an open batch with the gate after it, extend
+    /// beyond the area's end.
     Damaged,
 }
 

@@ -1,4 +1,4 @@
-// Writes areas that are new.
+// Writes new areas.
 ghost use Rattle.std.specs.Prelude.{◌≡◌, ◌<◌, ◌≤◌, ◌+◌, ◌^◌, [], length, IfOk, OnOk, is_ok};
 ghost use Rattle.disk.specs.State.{IsWrite};
 ghost use Rattle.disk.specs.Outlook.{IsForeseen, HasCause};
@@ -8,8 +8,8 @@ ghost use Rattle.gate_log.specs.Layout.{checkpoint, fresh_header};
 use crate::layout::{Area, CLOSED, EMPTY_AREA_LEN, Header, OPEN, RECORDS_AT};
 use disk::{DeviceFailed, Disk};
 
-/// Writes an area with an open gate, generation 1, sequence number 0, no records and no batches,
-/// and gives the place of the first batch's gate.
+/// Writes an area with an open gate, generation 1, sequence number 0, no records and no batches.
+/// Returns the place of the first batch's gate.
 pub fn format_area<D: Disk>(disk: &mut D, area: Area, version: u8) -> Result<u64, DeviceFailed>
     requires room { area.start + EMPTY_AREA_LEN ≤ area.end }
     requires within { area.end ≤ length (D.state disk.old).content }

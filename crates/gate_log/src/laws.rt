@@ -1,4 +1,4 @@
-//! What follows from the layout alone. The functions do nothing: their contracts are the laws.
+//! What follows from the layout alone. These functions do nothing: their contracts are the laws.
 ghost use Rattle.std.specs.Prelude.{◌≡◌, ◌<◌, List, ℕ};
 ghost use Rattle.gate_log.specs.declared.layout.Area.{Area};
 ghost use Rattle.gate_log.specs.declared.layout.Areas.{Areas};
@@ -10,14 +10,14 @@ ghost use Rattle.gate_log.specs.Layout.{HasRoomFor, Journal};
 use crate::layout::BatchHead;
 use crate::{CLOSED, EMPTY_AREA_LEN, ENTRIES_AT, Header, OPEN, RECORDS_AT};
 
-/// A disk holds one contents in two areas, if any.
+/// A disk holds at most one contents in two areas.
 pub fn a_disk_holds_one_contents()
     ensures { (a b : Area) (disk : List ℕ) (c d : LogContents) → AreOf a b c.areas
         → AreOf a b d.areas
         → Holds c disk → Holds d disk → c ≡ d }
 {}
 
-/// The area with what a disk holds is the live one, and has room for its records.
+/// The area with the contents of a disk is the live one, and has room for its records.
 pub fn what_is_held_is_live()
     ensures live { (disk : List ℕ) (c : LogContents) → Holds c disk
         → IsLiveArea c.areas c.journal.header disk }
@@ -25,21 +25,21 @@ pub fn what_is_held_is_live()
         → HasRoomFor c.areas.live c.journal.header }
 {}
 
-/// One of two areas is live, with one header, if any.
+/// At most one of two areas is live, with one header.
 pub fn one_area_is_live()
     ensures { (a b : Area) (disk : List ℕ) (areas others : Areas) (h k : Header) → AreOf a b areas
         → AreOf a b others
         → IsLiveArea areas h disk → IsLiveArea others k disk → (areas ≡ others) × (h ≡ k) }
 {}
 
-/// Where none of two areas is live, a disk holds nothing in them.
+/// If neither of two areas is live, a disk holds nothing in them.
 pub fn none_live_holds_nothing()
     ensures { (a b : Area) (disk : List ℕ) (c : LogContents) → NoLiveArea a b disk
         → AreOf a b c.areas
         → ¬ Holds c disk }
 {}
 
-/// What an area has stays where only bytes outside of it change.
+/// What an area has stays if only bytes outside of it change.
 pub fn a_journal_stays_where_others_change()
     ensures { (area : Area) (old new : List ℕ) (j : Journal) → HoldsIn area j old
         → bytes_in area new ≡ bytes_in area old → HoldsIn area j new }
@@ -52,7 +52,7 @@ pub fn a_closed_area_is_older()
         → IsOlder generation area disk }
 {}
 
-/// The bytes that gates are, where the records of an area and the entries of a batch begin, and the
+/// The bytes that gates are; where the records of an area and the entries of a batch begin; and the
 /// lengths of an area's header, of a batch's head and of an empty area.
 pub fn limits_are_these()
     ensures open { OPEN ≡ 165 }

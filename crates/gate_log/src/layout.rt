@@ -7,35 +7,35 @@ use byteorder::{BigEndian, ByteOrder};
 /// A gate that is open; any other byte is a closed one.
 pub const OPEN: u8 = 0xA5;
 
-/// The gate that is written where one is to be closed.
+/// The byte that is written to close a gate.
 pub const CLOSED: u8 = 0;
 
-/// How far behind an area's front its records begin: behind its gate and its header.
+/// The number of bytes from an area's beginning to its records: its gate and its header.
 pub const RECORDS_AT: u64 = 30;
 
 /// The length in bytes of an area with no records and no batches: its gate, its header and the gate
 /// of a batch.
 pub const EMPTY_AREA_LEN: u64 = 31;
 
-/// How far behind a batch's gate its entries begin: behind the gate and the batch's head.
+/// The number of bytes from a batch's gate to its entries: the gate and the batch's head.
 pub const ENTRIES_AT: u64 = 15;
 
-/// Where an area begins and ends on its disk, in bytes from the front.
+/// Where an area begins and ends on its disk, in bytes from the disk's beginning.
 #[derive(Clone, Copy, PartialEq, Eq)]
 pub struct Area {
     pub start: u64,
     pub end: u64,
 }
 
-/// The two areas of a disk: the live one has what the disk holds, and the other one is written by
-/// the next checkpoint.
+/// The two areas of a disk. The live one has what the disk holds, and the next checkpoint is
+/// written to the other one.
 #[derive(Clone, Copy, PartialEq, Eq)]
 pub struct Areas {
     pub live: Area,
     pub other: Area,
 }
 
-/// What stands behind an area's gate.
+/// What follows an area's gate.
 #[derive(Clone, Copy, PartialEq, Eq)]
 pub struct Header {
     pub version: u8,
@@ -47,7 +47,7 @@ pub struct Header {
     pub records_len: u64,
 }
 
-/// What stands behind a batch's gate.
+/// What follows a batch's gate.
 #[derive(Clone, Copy)]
 pub struct BatchHead {
     /// The length of the entries in bytes.
@@ -62,7 +62,7 @@ impl Header {
 
     ghost use Rattle.gate_log.specs.Layout.{HasRoomFor, IsHeader, header_bytes};
 
-    /// Whether the area has room for the records, and for the gate behind them.
+    /// Whether the area has room for the records and the gate after them.
     pub fn fits(&self, area: Area) -> bool
         requires { area.start + EMPTY_AREA_LEN ≤ area.end }
         ensures { IsTrue result ↔ HasRoomFor area self.now }
@@ -83,7 +83,7 @@ impl Header {
         bytes
     }
 
-    /// Puts this header's bytes in place of the first ones.
+    /// Writes this header's bytes over the first ones.
     pub(crate) fn put(self, bytes: &mut [u8])
         requires { Header.LEN ≤ length bytes.old }
         ensures { bytes.new ≡ header_bytes self ++ drop Header.LEN bytes.old }
@@ -125,7 +125,7 @@ impl BatchHead {
         bytes
     }
 
-    /// Puts this head's bytes in place of the first ones.
+    /// Writes this head's bytes over the first ones.
     pub(crate) fn put(self, bytes: &mut [u8])
         requires { BatchHead.LEN ≤ length bytes.old }
         ensures { bytes.new ≡ head_bytes self ++ drop BatchHead.LEN bytes.old }

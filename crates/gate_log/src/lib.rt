@@ -1,7 +1,8 @@
-//! A log of batches behind a checkpoint, on a disk with two areas of which one is live. Each batch
-//! and each checkpoint stands behind a gate: one byte that is opened only when all behind it is on
-//! the disk. Whatever a crash leaves, the disk holds a beginning of the batches that were begun,
-//! with every batch that became durable, or a checkpoint.
+//! A log of batches after a checkpoint, on a disk with two areas of which one is live. Each batch
+//! and each checkpoint has a gate in front: one byte, which is opened only after everything that
+//! follows it is on the disk. Each image that a crash may leave holds the checkpoint with the first
+//! n of the batches that were begun after it, for some n, every durable one among them; or the next
+//! checkpoint.
 #![tactic(auto)]
 
 mod batch;

@@ -1,11 +1,12 @@
-// Tells which of two areas is the live one.
+// Finds out which of two areas is the live one.
 ghost use Rattle.std.specs.Prelude.{◌≡◌, ◌<◌, ◌≤◌, ◌+◌, ℕ, List, MatchOption};
 ghost use Rattle.gate_log.specs.declared.layout.TheConstants.{EMPTY_AREA_LEN};
 ghost use Rattle.gate_log.specs.Areas.{AreOf, HasHeader, IsClosedArea, NoLiveArea};
 
 use crate::layout::{Area, Areas, Header};
 
-/// Which of a disk's areas is the live one, its header, and whether the other one's gate is open.
+/// Which of a disk's areas is the live one, that area's header, and whether the other one's gate is
+/// open.
 #[derive(Clone, Copy, PartialEq, Eq)]
 pub struct Live {
     pub areas: Areas,
@@ -16,8 +17,9 @@ pub struct Live {
 impl Live {
     ghost use Rattle.gate_log.specs.Live.{IsLiveAs};
 
-    /// Of two areas, with the headers of those that are open, the one that is live: the open one of
-    /// the greater generation. None is where both are closed, or both open with one generation.
+    /// Returns which of two areas is live, from the headers of those that are open: the open one of
+    /// the greater generation. Returns `None` if both are closed, or both open with the same
+    /// generation.
     pub(crate) fn of(
         a: Area,
         header_a: Option<Header>,
@@ -50,7 +52,7 @@ impl Live {
         }
     }
 
-    // The area with this header, of which the other one's gate is closed.
+    // The area with this header as the live one, when the other one's gate is closed.
     fn beside_closed(area: Area, header: Header, closed: Area) -> Self
         requires { closed.start < closed.end }
         ensures live { (disk : List ℕ) → HasHeader area header disk → IsClosedArea closed disk

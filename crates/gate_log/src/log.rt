@@ -6,8 +6,8 @@ ghost use Rattle.gate_log.specs.Areas.{AreLaidOut};
 use crate::layout::Areas;
 use disk::{Disk, Sim};
 
-/// The log of a disk with two areas: it knows which of them is live, of what generation that is,
-/// where the next batch's gate stands there, and whether the other one's gate is open.
+/// The log of a disk with two areas. It knows which of them is live, that one's generation and
+/// where its next batch's gate stands, and whether the other one's gate is open.
 #[derive(Drop)]
 pub struct Log<D: Disk> {
     pub(crate) disk: D,
@@ -23,8 +23,8 @@ pub struct Log<D: Disk> {
 impl<D: Disk> Log<D> {
     ghost use Rattle.gate_log.specs.Log.{log_state, log_disk};
 
-    /// The log of these areas of a disk, whose live one is of this generation and has its next
-    /// batch's gate at this place, and whose other one's gate is open or not.
+    /// The log of these areas of a disk. The live one is of this generation and has its next
+    /// batch's gate at this place. The other one's gate is open or not, as given.
     pub fn new(disk: D, areas: Areas, generation: u64, next: u64, other_open: bool) -> Self
         requires layout { AreLaidOut areas (length (D.state disk).content) }
         requires room { next < areas.live.end }
@@ -47,7 +47,7 @@ impl<D: Disk> Log<D> {
         }
     }
 
-    /// The number of bytes from the next batch's gate to the live area's end: at least one.
+    /// The number of bytes from the next batch's gate to the live area's end. It is at least one.
     pub fn room(&self) -> u64
         ensures room { (log_state D.state self.now).next + result
             ≡ (log_state D.state self.now).areas.live.end }
@@ -63,7 +63,8 @@ impl<D: Disk> Log<D> {
         self.generation
     }
 
-    /// Whether the other area's gate is open, so that it has to be retired before a checkpoint.
+    /// Whether the other area's gate is open. If so, that area has to be retired before a
+    /// checkpoint.
     pub fn is_other_open(&self) -> bool
         ensures { result ≡ (log_state D.state self.now).other_open }
     {
@@ -78,7 +79,7 @@ impl<D: Disk> Log<D> {
         self.areas.other.end - self.areas.other.start
     }
 
-    /// Gives the disk back.
+    /// Returns the disk.
     pub fn close(self) -> D
         ensures { result ≡ log_disk self }
     {

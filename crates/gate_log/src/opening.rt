@@ -18,8 +18,8 @@ use crate::recover::{Recovered, recover_area};
 use disk::{DeviceFailed, Disk};
 use std::alloc::Global;
 
-/// A disk whose log is being opened. It was synced first, so none of its positions is open: opening
-/// again after a fault is like a crash that leaves the content.
+/// A disk whose log is being opened. It is synced first, so none of its positions is open. Opening
+/// it again after a fault is like opening it after a crash that leaves the content.
 #[derive(Drop)]
 pub struct Opening<D: Disk> {
     disk: D,
@@ -32,7 +32,7 @@ impl<D: Disk> Opening<D> {
     ghost use Rattle.gate_log.specs.Opening.{disk_in_opening, synced_disk};
     ghost use Rattle.gate_log.specs.Recovered.{IsRecovered};
 
-    /// Syncs the disk. Where that fails, the disk comes back.
+    /// Syncs the disk. If that fails, the disk is returned.
     pub fn new(disk: D) -> Result<Self, (DeviceFailed, D)>
         ensures settled { D.honest
             → IfOk result (λ opening. NothingOpen (D.state (disk_in_opening opening))) }
@@ -59,7 +59,7 @@ impl<D: Disk> Opening<D> {
         self.disk.len()
     }
 
-    /// Fills the buffer with the bytes of the disk from a position on.
+    /// Fills the buffer with the bytes of the disk that begin at a position.
     #[tactic(auto, using(crate::proofs::ReadsOn::armed_call))]
     pub fn read_at(&mut self, at: u64, buffer: &mut [u8]) -> Result<(), DeviceFailed>
         requires { at + length buffer.old ≤ length (D.state (disk_in_opening self.old)).content }
@@ -72,9 +72,9 @@ impl<D: Disk> Opening<D> {
         self.disk.read_at(at, buffer)
     }
 
-    /// Which of two areas is the live one: of those whose gates are open that of the greater
-    /// generation. None is where both gates are closed, or both open with one generation. Both
-    /// headers are read, and of the area that isn't live no more.
+    /// Returns which of two areas is the live one: the one of the greater generation among those
+    /// whose gates are open. Returns `None` if both gates are closed, or both open with the same
+    /// generation. It reads both headers, and nothing else of the area that isn't live.
     pub fn live(&mut self, a: Area, b: Area) -> Result<Option<Live>, DeviceFailed>
         requires layout { AreLaidOut (record { live = a; other = b })
             (length (D.state (disk_in_opening self.old)).content) }
@@ -93,8 +93,8 @@ impl<D: Disk> Opening<D> {
         Ok(Live::of(a, header_a, b, header_b))
     }
 
-    /// What the disk holds: the live area's checkpoint, and the longest list of open batches behind
-    /// it. `Damaged` comes exactly where it holds nothing.
+    /// Returns what the disk holds: the live area's checkpoint and the longest list of open batches
+    /// after it. `Damaged` is returned only if the disk holds nothing.
     pub fn recover(&mut self, alloc: Global, live: Live) -> Result<Recovered, RecoverError>
         requires layout { AreLaidOut live.areas
             (length (D.state (disk_in_opening self.old)).content) }
@@ -115,7 +115,7 @@ impl<D: Disk> Opening<D> {
         recover_area(&mut self.disk, alloc, live.areas.live, live.header)
     }
 
-    /// The log of the disk, whose next batch's gate stands at this place in the live area.
+    /// The log of the disk, with the next batch's gate at this place in the live area.
     pub fn into_log(self, live: Live, next: u64) -> Log<D>
         requires layout { AreLaidOut live.areas (length (D.state (disk_in_opening self)).content) }
         requires room { next < live.areas.live.end }
@@ -144,7 +144,7 @@ impl<D: Disk> Opening<D> {
         )
     }
 
-    /// Gives the disk back.
+    /// Returns the disk.
     pub fn close(self) -> D
         ensures disk { result ≡ disk_in_opening self }
         ensures settled { D.honest → NothingOpen (D.state result) }

@@ -12,15 +12,15 @@ use crate::log::Log;
 use crate::phases::{Begun, BodySynced, Durable, GateWritten};
 use disk::{DeviceFailed, Disk};
 
-/// A batch whose gate is open, and behind it the body of the next one; both may be torn.
+/// A batch whose gate is open, and after it the body of the next one. A crash may tear both.
 pub struct Paired {
-    // How far behind each batch's gate the next one stands.
+    // The number of bytes from each batch's gate to the next one.
     pub(crate) size: u64,
     pub(crate) next_size: u64,
 }
 
 impl GateWritten {
-    /// Writes the next batch's body and the closed gate behind it, before this batch's gate is
+    /// Writes the next batch's body and the closed gate after it, before this batch's gate is
     /// synced. The next batch's own gate stays closed, so no crash leaves that batch.
     pub fn write_next<D: Disk>(
         self,
@@ -56,7 +56,7 @@ impl GateWritten {
 }
 
 impl Paired {
-    /// Syncs the batch's gate and the next one's body. Afterwards the batch is durable.
+    /// Syncs the batch's gate and the next one's body. After that the batch is durable.
     pub fn sync<D: Disk>(self, log: &mut Log<D>) -> Result<(Durable, BodySynced), DeviceFailed>
         requires { (log_state D.state log.old).next + paired_size self
             < (log_state D.state log.old).areas.live.end }
@@ -91,7 +91,7 @@ impl Paired {
         Ok((Durable { size }, BodySynced { size: next_size }))
     }
 
-    /// Lets both batches go, at a crash.
+    /// Drops both batches at a crash.
     pub fn lose(self) {
         let Paired {
             size: _,

@@ -20,18 +20,18 @@ pub struct Begun {
     pub(crate) bytes: Vec<u8>,
 }
 
-/// A batch whose body is written, and may be torn.
+/// A batch whose body is written and not synced, so a crash may tear it.
 pub struct Written {
-    // How far behind the batch's gate the next one stands.
+    // The number of bytes from the batch's gate to the next one.
     size: u64,
 }
 
-/// A batch whose body is on the disk, behind its closed gate.
+/// A batch whose body is on the disk. Its gate is closed.
 pub struct BodySynced {
     pub(crate) size: u64,
 }
 
-/// A batch whose gate is open, and may be torn.
+/// A batch whose gate is open. That write isn't synced, so a crash may tear it.
 pub struct GateWritten {
     pub(crate) size: u64,
 }
@@ -42,8 +42,8 @@ pub struct Durable {
 }
 
 impl Begun {
-    /// Room for a batch's head, to which `entries_len` bytes of entries are appended: with them and
-    /// the gate behind them it takes no more memory.
+    /// Room for a batch's head, after which the caller appends `entries_len` bytes of entries.
+    /// Appending them and the gate after them takes no more memory.
     pub fn buffer(alloc: Global, entries_len: usize) -> Result<Vec<u8>, AllocError>
         requires { ENTRIES_AT + entries_len < 2 ^ 64 }
         ensures len { IfOk result (λ bytes. length bytes.items ≡ BatchHead.LEN) }
@@ -54,8 +54,8 @@ impl Begun {
         Ok(bytes)
     }
 
-    /// A batch of the entries that stand behind a buffer's room for its head. All the memory that
-    /// its phases need is taken here, and none where the buffer has room for one byte more.
+    /// A batch of the entries that follow a buffer's room for its head. All the memory that its
+    /// phases need is allocated here: none if the buffer has room for one byte more.
     pub fn new(buffer: Vec<u8>, last_sequence: u64, entry_count: u16) -> Result<Begun, AllocError>
         requires head { BatchHead.LEN ≤ length buffer.items }
         requires short { length buffer.items < 2 ^ 32 }
@@ -103,7 +103,7 @@ impl Begun {
         })
     }
 
-    /// Lets the batch go, at a crash.
+    /// Drops the batch at a crash.
     pub fn lose(self) {
         let Begun { bytes: _ } = self;
     }
@@ -129,7 +129,7 @@ impl Written {
         Ok(BodySynced { size })
     }
 
-    /// Lets the batch go, at a crash.
+    /// Drops the batch at a crash.
     pub fn lose(self) {
         let Written { size: _ } = self;
     }
@@ -156,21 +156,21 @@ impl BodySynced {
         Ok(GateWritten { size })
     }
 
-    /// Lets the batch go, at a crash.
+    /// Drops the batch at a crash.
     pub fn lose(self) {
         let BodySynced { size: _ } = self;
     }
 }
 
 impl GateWritten {
-    /// How far behind the batch's gate the next one stands, in bytes.
+    /// The number of bytes from the batch's gate to the next one.
     pub fn size(&self) -> u64
         ensures { result ≡ gate_written_size self.now }
     {
         self.size
     }
 
-    /// Syncs the batch's gate. Afterwards the batch is durable.
+    /// Syncs the batch's gate. After that the batch is durable.
     pub fn sync<D: Disk>(self, log: &mut Log<D>) -> Result<Durable, DeviceFailed>
         requires { (log_state D.state log.old).next + gate_written_size self
             < (log_state D.state log.old).areas.live.end }
@@ -202,14 +202,14 @@ impl GateWritten {
         Ok(Durable { size })
     }
 
-    /// Lets the batch go, at a crash.
+    /// Drops the batch at a crash.
     pub fn lose(self) {
         let GateWritten { size: _ } = self;
     }
 }
 
 impl Durable {
-    /// Lets it go.
+    /// Drops it.
     pub fn finish(self) {
         let Durable { size: _ } = self;
     }

@@ -25,7 +25,7 @@ fn is_open<D: Disk>(disk: &mut D, at: u64) -> Result<bool, DeviceFailed>
     Ok(gate[0] == OPEN)
 }
 
-/// The header behind the gate at a position, where that is open.
+/// The header after the gate at a position, if that gate is open.
 #[tactic(auto, using(crate::proofs::ReadsOn::armed_call))]
 pub fn read_header<D: Disk>(disk: &mut D, at: u64) -> Result<Option<Header>, DeviceFailed>
     requires { at + RECORDS_AT ≤ length (D.state disk.old).content }
@@ -60,7 +60,7 @@ fn read_head<D: Disk>(disk: &mut D, at: u64) -> Result<BatchHead, DeviceFailed>
     Ok(BatchHead::from_bytes(&bytes))
 }
 
-/// So many bytes from a position on.
+/// This number of bytes from a position on.
 #[tactic(auto, using(crate::proofs::ReadsOn::armed_call))]
 pub fn read_bytes<D: Disk>(
     disk: &mut D,
@@ -81,7 +81,7 @@ pub fn read_bytes<D: Disk>(
     Ok(bytes)
 }
 
-/// The batch behind the gate at a position, where that is open.
+/// The batch after the gate at a position, if that gate is open.
 fn read_batch<D: Disk>(
     disk: &mut D,
     alloc: Global,
@@ -104,7 +104,7 @@ fn read_batch<D: Disk>(
     if !is_open(disk, at)? {
         return Ok(None);
     }
-    // Behind the entries stands the next gate.
+    // The next gate follows the entries.
     if end - at <= ENTRIES_AT {
         return Err(RecoverError::Damaged);
     }
@@ -116,7 +116,7 @@ fn read_batch<D: Disk>(
     Ok(Some(Batch::new(head.last_sequence, head.entry_count, entries)))
 }
 
-/// The batches from a position on up to the first closed gate, and its place.
+/// The batches from a position on up to the first closed gate, and that gate's place.
 pub fn read_batches<D: Disk>(
     disk: &mut D,
     alloc: Global,

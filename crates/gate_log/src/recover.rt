@@ -12,7 +12,7 @@ use crate::reading::{read_batches, read_bytes};
 use disk::Disk;
 use std::alloc::Global;
 
-/// What an area holds: its checkpoint, and the batches behind it.
+/// What an area holds: its checkpoint, and the batches after it.
 #[derive(Drop)]
 pub struct Recovered {
     pub header: Header,
@@ -22,7 +22,7 @@ pub struct Recovered {
     pub next: u64,
 }
 
-/// Reads what stands behind the area's header: the records, and the longest list of open batches.
+/// Reads what follows the area's header: the records and the longest list of open batches.
 pub fn recover_area<D: Disk>(
     disk: &mut D,
     alloc: Global,

@@ -1,4 +1,4 @@
--- From how a command ended, and what of it was told, to what is said of it.
+-- From how a command ended, and what of it was printed, to what its contract says.
 use Rattle.std.proofs.Common.{◌≡◌, ◌≢◌, ◌≤◌, ◌⊎◌, ◌↔◌, ℕ, List, [], Option, None, Some, Result}
 use Rattle.std.proofs.Common.{Ok, Err}
 use Rattle.std.proofs.Common.{MatchResult, IfOk, IfErr, IsOk, OnErr, OnOk, inl, inr, refl}
@@ -17,12 +17,12 @@ use Rattle.gateway_server.specs.Told.{AsksToRun, CannotListen, FellShort, HasSta
 use Rattle.gateway_server.specs.Told.{IsAskedFor, IsDone, SaysSomething, TellsEarly, WasObeyed}
 use Rattle.gateway_server.specs.Told.{outcome_with}
 
--- nothing is told
+-- nothing is printed
 appends_nothing : (known : Option (List ℕ)) → Appends known known []
 appends_nothing None = tt
 appends_nothing (Some xs) = sym (append-nil xs)
 
--- its text was told
+-- its text was printed
 pub of_text : {O E S : Type 0} (ends : Mode → Result (List ℕ) Fault → Type 0) (m asked : Mode)
     (contents : O → Option (List ℕ)) (old new : O) (text_of : S → List ℕ) (text : Result S Fault)
     (result : Result (Result (Unit {0}) E) Fault) → m ≡ asked → SaysSomething asked
@@ -45,7 +45,7 @@ of_text ends m asked contents old new text_of (Err fault) result is says ended o
     subst (λ r. WasObeyed ends m contents old new r) (sym err.0)
     (subst (λ a. ends a (Err fault)) (sym is) ended, inr err.1)
 
--- nothing is to be told
+-- nothing is to be printed
 pub of_nothing : {O E S : Type 0} (ends : Mode → Result (List ℕ) Fault → Type 0) (m asked : Mode)
     (contents : O → Option (List ℕ)) (out : O) (ended : Result S Fault)
     (result : Result (Result (Unit {0}) E) Fault) → m ≡ asked
@@ -58,7 +58,7 @@ of_nothing ends m asked contents out (Err fault) result is e ok err =
     subst (λ r. WasObeyed ends m contents out out r) (sym err)
     (subst (λ a. ends a (Err fault)) (sym is) e, inr refl)
 
--- what it has to say was told elsewhere
+-- its text was printed elsewhere
 pub of_life : {O E S : Type 0} (ends : Mode → Result (List ℕ) Fault → Type 0) (m asked : Mode)
     (contents : O → Option (List ℕ)) (out : O) (ended : Result S Fault)
     (result : Result (Result (Unit {0}) E) Fault) → m ≡ asked → SaysSomething asked
@@ -73,7 +73,7 @@ of_life ends m asked contents out (Err fault) result is says e ok err =
     subst (λ r. WasObeyed ends m contents out out r) (sym err)
     (e, inr refl)
 
--- it was told before
+-- it was printed before
 pub of_early : {O E S : Type 0} (ends : Mode → Result (List ℕ) Fault → Type 0) (m asked : Mode)
     (contents : O → Option (List ℕ)) (old new : O) (ended : Result S Fault)
     (result : Result (Result (Unit {0}) E) Fault) → m ≡ asked → TellsEarly asked
@@ -91,14 +91,14 @@ of_early ends m asked contents old new (Err fault) result is early says e ok err
     subst (λ r. WasObeyed ends m contents old new r) (sym err.0)
     (e, subst (λ a. AsksToRun a ⊎ (new ≡ old)) (sym is) err.1)
 
--- a fault is told on, whatever was told before
+-- a fault is passed on, after any output
 pub told_on : {S T : Type 0} (Q R : Type 0) (ended : Result S Fault) (result : Result T Fault) → Q
     → IfErr ended (λ fault. result ≡ Err fault)
     → IfErr ended (λ fault. (result ≡ Err fault) × (Q ⊎ R))
 told_on Q R (Ok x) result asked err = tt
 told_on Q R (Err fault) result asked err = (err, inl asked)
 
--- a fault is its own answer, and nothing was told
+-- a fault is its own answer, and nothing was printed
 pub itself : {S : Type 0} (Q R : Type 0) (ended : Result S Fault) → OnErr ended R
     → IfErr ended (λ fault. (ended ≡ Err fault) × (Q ⊎ R))
 itself Q R (Ok x) quiet = tt
@@ -129,7 +129,7 @@ of_fault ends m contents old new fault status was (inl is) one three =
 of_fault ends m contents old new fault status was (inr is) one three =
     inr (inr (is, ((three is).0, subst (λ f. ends m (Err f)) (three is).1 was.0)))
 
--- what is said of a command by its status
+-- what a command's status means
 pub record CommandTells {C O : Type 0} (words : List (List ℕ))
     (ends : Mode → Result (List ℕ) Fault → Type 0) (contents : O → Option (List ℕ))
     (before after : C) (old new : O) (status : ℕ) : Type 0 where

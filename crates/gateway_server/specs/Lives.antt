@@ -1,4 +1,4 @@
--- Why a command failed, by what a life or a store's file failed of.
+-- Why a command failed, given why a life or a store's file failed.
 use Rattle.server_links.specs.declared.fault.ServeFault.{ServeFault}
 use Rattle.server_links.specs.declared.fault.ServeFault.TheVariants as served
 use Rattle.store_files.specs.declared.fault.FileFault.{FileFault}
@@ -7,12 +7,12 @@ use Rattle.gateway_server.specs.declared.fault.Fault.{Fault}
 use Rattle.gateway_server.specs.declared.fault.Fault.TheVariants.{Exists, File, Listen, Record}
 use Rattle.gateway_server.specs.declared.fault.Fault.TheVariants.{RecordLine, Refused, Spent}
 
--- the fault of a command whose life ended by this one
+-- the fault of a command whose life ended with this one
 abbrev pub fault_of_life : ServeFault → Fault
 fault_of_life served.Listen = Listen
 fault_of_life (served.Refused refusal) = Refused refusal
 
--- the fault of a command whose store's file couldn't be made or restored for this one
+-- the fault of a command whose store's file couldn't be made or restored because of this one
 abbrev pub fault_of_file : FileFault → Fault
 fault_of_file file.Exists = Exists
 fault_of_file file.File = File

@@ -1,4 +1,4 @@
--- What a command tells, and with which status it ends.
+-- What a command prints, and with which status it ends.
 use Rattle.std.specs.Prelude.{◌≡◌, ◌≢◌, ◌≤◌, ◌⊎◌, ℕ, List, Option, Result, Ok, Err, MatchResult}
 use Rattle.std.specs.Prelude.{string_bytes}
 use Rattle.std.specs.Io.KnownBytes.{Appends}
@@ -10,7 +10,7 @@ use Rattle.command_words.specs.declared.mode.Usage.TheVariants as usage
 use Rattle.gateway_server.specs.declared.fault.Fault.{Fault}
 use Rattle.gateway_server.specs.declared.fault.Fault.TheVariants.{Listen}
 
--- it tells where it listens, or what happens, while it is done
+-- it prints where it listens, or events, while it runs
 abbrev pub TellsEarly : Mode → Type 0
 TellsEarly (mode.Run file listen links) = Unit
 TellsEarly (mode.Watch file) = Unit
@@ -22,7 +22,7 @@ TellsEarly (mode.Devices file) = ⊥
 TellsEarly (mode.Status file wait) = ⊥
 TellsEarly (mode.Restore file new_file grants above) = ⊥
 
--- it tells something, early or once it is done
+-- it prints something, early or when it is done
 abbrev pub SaysSomething : Mode → Type 0
 SaysSomething (mode.Format file net_id slots) = ⊥
 SaysSomething (mode.Stop file) = ⊥
@@ -34,7 +34,7 @@ SaysSomething (mode.Devices file) = Unit
 SaysSomething (mode.Status file wait) = Unit
 SaysSomething (mode.Restore file new_file grants above) = Unit
 
--- it is to serve links that come and go, and may fail once it has told where it listens
+-- it serves links that come and go, and may fail after it has printed where it listens
 abbrev pub AsksToRun : Mode → Type 0
 AsksToRun (mode.Run file listen links) = Unit
 AsksToRun (mode.Watch file) = ⊥
@@ -46,13 +46,13 @@ AsksToRun (mode.Devices file) = ⊥
 AsksToRun (mode.Status file wait) = ⊥
 AsksToRun (mode.Restore file new_file grants above) = ⊥
 
--- what came of a command that gives such a value: the text to tell of it, or the fault
+-- the result of a command that returns such a value: the text to print, or the fault
 abbrev pub outcome_with : {A : Type 0} → (A → List ℕ) → Result A Fault → Result (List ℕ) Fault
 outcome_with text_of (Ok value) = Ok (text_of value)
 outcome_with text_of (Err fault) = Err fault
 
--- Commands that were to do this ended so: it was done, and its text stands on standard output
--- behind what was there, or something that it says couldn't be written; or it failed.
+-- How commands that were to do this ended: it was done, and its text is on standard output after
+-- what was there, or part of the text couldn't be written; or it failed.
 abbrev pub WasObeyed : {O E : Type 0} → (Mode → Result (List ℕ) Fault → Type 0) → Mode
     → (O → Option (List ℕ)) → O → O → Result (Result (Unit {0}) E) Fault → Type 0
 WasObeyed ends m contents old new result = MatchResult result
@@ -61,18 +61,18 @@ WasObeyed ends m contents old new result = MatchResult result
     (λ _. SaysSomething m)))
     (λ fault. ends m (Err fault) × (AsksToRun m ⊎ (new ≡ old)))
 
--- these words ask for something of which this holds
+-- these words ask for something that has this property
 abbrev pub IsAskedFor : List (List ℕ) → (Mode → Type 0) → Type 0
 IsAskedFor words holds = (m : Mode) × (AskFor words m × holds m)
 
--- this was done, and what it tells was told
+-- this was done, and its text was printed
 pub record IsDone {O : Type 0} (ends : Mode → Result (List ℕ) Fault → Type 0)
     (contents : O → Option (List ℕ)) (old new : O) (m : Mode) : Type 0 where
   pub text : List ℕ
   pub ended : ends m (Ok text)
   pub told : TellsEarly m ⊎ Appends (contents old) (contents new) text
 
--- this failed, and told nothing, or it was done and couldn't be told
+-- this failed, and printed nothing, or it was done and its text couldn't be printed
 pub record FellShort {O : Type 0} (ends : Mode → Result (List ℕ) Fault → Type 0) (old new : O)
     (m : Mode) : Type 0 where
   pub outcome : Result (List ℕ) Fault
@@ -80,19 +80,19 @@ pub record FellShort {O : Type 0} (ends : Mode → Result (List ℕ) Fault → T
   pub cause : MatchResult outcome (λ _. SaysSomething m)
       (λ fault. (AsksToRun m → fault ≢ Listen) × (AsksToRun m ⊎ (new ≡ old)))
 
--- this is to serve links that come and go, and none can be listened for
+-- this is to serve links that come and go, and the address can't be listened on
 abbrev pub CannotListen : (Mode → Result (List ℕ) Fault → Type 0) → Mode → Type 0
 CannotListen ends m = AsksToRun m × ends m (Err Listen)
 
--- the status of what was asked for: 0 where it was done and told, 3 where it can't listen, or 1
+-- the status of what was asked for: 0 if it was done and printed, 3 if it can't listen, or 1
 abbrev pub HasStatus : {O : Type 0} → (Mode → Result (List ℕ) Fault → Type 0)
     → (O → Option (List ℕ)) → O → O → Mode → ℕ → Type 0
 HasStatus ends contents old new m status =
     ((status ≡ 0) × IsDone ends contents old new m)
     ⊎ (((status ≡ 1) × FellShort ends old new m) ⊎ ((status ≡ 3) × CannotListen ends m))
 
--- The status of words that ask for nothing to be done: 2 of wrong ones; 0 of help, where its text
--- stands on standard output behind what was there, or else 1; 1 where there was no memory.
+-- The status of words that ask for no action: 2 for wrong ones; for help 0 if its text is on
+-- standard output after what was there, and otherwise 1; 1 if memory was out.
 abbrev pub HasUsageStatus : {O : Type 0} → Usage → (O → Option (List ℕ)) → O → O → ℕ → Type 0
 HasUsageStatus (usage.Words text) contents old new status = (status ≡ 2) × (new ≡ old)
 HasUsageStatus (usage.Help text) contents old new status = (status ≤ 1)

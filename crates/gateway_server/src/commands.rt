@@ -1,4 +1,4 @@
-// What modes ask for, and what does it.
+// The commands that carry out a mode.
 use crate::{Fault, FinishedLife, control, stores};
 use command_words::Mode;
 use devices::GrantsSince;
@@ -12,8 +12,8 @@ use std::net::Net;
 use std::rt::{Clock, Files};
 use store_files::{RestoreRequest, restore};
 
-/// What does what a mode asks for. That it was done, or failed, is known by these calls alone: so
-/// whoever is lent commands can claim no more than they answered.
+/// Carries out what a mode asks for. Only these calls say whether it was done or failed, so a
+/// caller that borrows commands can't claim more than they returned.
 pub trait Commands {
     ghost use Rattle.std.specs.Prelude.{◌≡◌, ℕ, List, [], Result, IfOk, OnErr, string_bytes};
     ghost use Rattle.command_words.specs.declared.mode.Mode.{Mode};
@@ -21,8 +21,8 @@ pub trait Commands {
     ghost use Rattle.gateway_server.specs.Told.{outcome_with};
     ghost use Rattle.gateway_server.specs.declared.fault.Fault.{Fault};
 
-    /// The commands as they were, what was asked for, what came of it, with the text that has to be
-    /// told then, and the commands as they are then.
+    /// The commands before, the request, its result with the text that must be printed then, and
+    /// the commands after.
     ghost ends: { Self → Mode → Result (List ℕ) Fault → Self → Type 0 };
 
     /// Makes a store without devices in a new file.
@@ -61,8 +61,8 @@ pub trait Commands {
         ensures { ends self.old (mode.Devices file.entry)
             (outcome_with string_bytes result) self.new };
 
-    /// Tells on `out` what happens at the server that runs on the store in a file, until it ends,
-    /// and gives what came of writing it. Where it fails, nothing was told.
+    /// Prints on `out` the events of the server that runs on the store in a file, until it ends,
+    /// and returns the result of writing them. If it fails, nothing was printed.
     fn watch<R: Files + Net, O: Write>(
         &mut self,
         rt: &R,
@@ -74,8 +74,8 @@ pub trait Commands {
             self.new }
         ensures quiet { OnErr result (out.new ≡ out.old) };
 
-    /// How it goes with the server that runs on the store in a file, or begins within so many
-    /// seconds.
+    /// The status of the server that runs on the store in a file, or that begins within this number
+    /// of seconds.
     fn status<R: Files + Net + Clock>(
         &mut self,
         rt: &R,
@@ -86,8 +86,8 @@ pub trait Commands {
         ensures { ends self.old (mode.Status file.entry wait)
             (outcome_with string_bytes result) self.new };
 
-    /// Restores an older copy of a lost store in a new file. Returns what is printed of the new
-    /// store.
+    /// Restores an older copy of a lost store to a new file. Returns the text to print about the
+    /// new store.
     fn restore<R: Files<File = File>>(
         &mut self,
         rt: &R,
@@ -100,9 +100,9 @@ pub trait Commands {
         ensures { ends self.old (mode.Restore file.entry new.entry grants above.entry)
             (outcome_with string_bytes result) self.new };
 
-    /// Takes note of how the life of a server has ended that the mode asks for. It isn't served by
-    /// a call of this trait, behind which no thread can be started that is proved; but only a life
-    /// that was served gives a [`FinishedLife`].
+    /// Records how the life of the server that the mode asks for has ended. No call of this trait
+    /// serves it, since no proved thread can be started through a trait. But only a life that was
+    /// served gives a [`FinishedLife`].
     fn life_ended(&mut self, mode: &Mode<'_>, life: &Result<FinishedLife<'_>, Fault>)
         requires { IfOk life.now (λ finished. finished.mode ≡ mode.now) }
         ensures { ends self.old mode.now (outcome_with (λ _. []) life.now) self.new };
@@ -115,7 +115,7 @@ pub struct ServerCommands;
 impl Commands for ServerCommands {
     ghost use Rattle.std.specs.Prelude.{⊤};
 
-    // Files and sockets have no model here: what they come to is left to tests.
+    // Files and sockets have no model here: tests show their results.
     ghost ends = { λ _ _ _ _. ⊤ };
 
     fn format<R: Files<File = File>>(

@@ -1,4 +1,4 @@
-// The control socket beside a store's file: the server listens there, and whoever asks connects.
+// The control socket beside a store's file: the server listens there, and operators connect.
 ghost use Rattle.std.specs.Prelude.{◌≡◌, ◌≢◌, ◌++◌, ◌∷◌, [], IfErr, IfOk, MatchResult, OnErr};
 ghost use Rattle.std.specs.Prelude.{codes, string_bytes};
 
@@ -15,19 +15,19 @@ use std::rt::{Clock, Files};
 use std::time::Duration;
 use std::{fs, io, thread};
 
-/// What whoever stops a server is told once it has ended.
+/// What the server sends when it has ended, to the operator who stopped it.
 pub(crate) const ENDED: &str = "ended";
 
-// How often it is tried whether a server runs meanwhile, in milliseconds.
+// The pause between tries to reach a server that is starting, in milliseconds.
 const PAUSE: u64 = 50;
 
-// How much of what happens is read at a time, in bytes.
+// How much of the events is read at a time, in bytes.
 const PIECE: usize = 4096;
 
-// How many tries those are a second.
+// The number of tries a second.
 const TRIES: u64 = 20;
 
-/// The name of a store's file once symbolic links are followed. Only [`real_file`] makes one.
+/// The name of a store's file after symbolic links are followed. Only [`real_file`] makes one.
 #[derive(Drop)]
 pub(crate) struct RealFile(String);
 
@@ -37,8 +37,8 @@ pub(crate) struct RealFile(String);
 pub(crate) struct ControlPath(String);
 
 /// The file that a name leads to, so that each name of a store leads to one control socket. A name
-/// that is no symbolic link stays as it is, and so does one that leads nowhere. Refused with
-/// `OutOfMemory` alone.
+/// that isn't a symbolic link stays as it is, and so does one that leads nowhere. The only refusal
+/// is `OutOfMemory`.
 pub(crate) fn real_file<R: Files>(rt: &R, alloc: Global, file: &str) -> Result<RealFile, Fault>
     ensures { IfErr result (λ fault. fault ≡ Fault.Refused Refusal.OutOfMemory) }
 {
@@ -79,8 +79,8 @@ pub(crate) fn path_of(alloc: Global, file: &RealFile) -> Result<ControlPath, Fau
     }
 }
 
-/// Listens at a control socket. One that is there already is left over, since nobody else has the
-/// store's file, and is removed; what is no socket stays, and nothing is listened at.
+/// Listens at a control socket. An existing socket is left over, since no other process has the
+/// store's file, and is removed. A file that isn't a socket stays, and the call fails.
 pub(crate) fn bind_control<R: Files<File = File> + Net>(
     rt: &R,
     path: &ControlPath,
@@ -94,7 +94,7 @@ pub(crate) fn bind_control<R: Files<File = File> + Net>(
     UnixListener::bind(rt, path.0.as_str()).map_err(|_| Fault::Control)
 }
 
-/// Removes a control socket. Where that fails it is left over.
+/// Removes a control socket. If that fails it is left over.
 pub(crate) fn remove<R: Files<File = File>>(rt: &R, path: &ControlPath) {
     let _ = fs::remove_file(rt, path.0.as_str());
 }
@@ -110,7 +110,7 @@ fn connect_to<R: Files + Net>(rt: &R, alloc: Global, file: &str) -> Result<UnixS
     connect(rt, &path)
 }
 
-// Why nobody could be connected to.
+// Why a connection failed.
 fn fault_of_connecting(kind: ErrorKind) -> Fault
     ensures none { kind ≡ ErrorKind.NotFound → result ≡ Fault.NotRunning }
     ensures refused { kind ≡ ErrorKind.ConnectionRefused → result ≡ Fault.LeftOver }
@@ -124,7 +124,7 @@ fn fault_of_connecting(kind: ErrorKind) -> Fault
     }
 }
 
-// Gives an order, and gives back all of its answer.
+// Sends an order, and returns its whole answer.
 fn ask(alloc: Global, stream: UnixStream, order: Order) -> Result<String, Fault> {
     let mut stream = stream;
     let word = order.word();
@@ -139,8 +139,8 @@ fn ask(alloc: Global, stream: UnixStream, order: Order) -> Result<String, Fault>
     }
 }
 
-/// Stops the server that runs on the store in a file, and waits until it has ended. What it answers
-/// where it ended by a fault is that fault.
+/// Stops the server that runs on the store in a file, and waits until it has ended. If the server
+/// ends with a fault, returns that fault.
 pub(crate) fn stop<R: Files + Net>(rt: &R, alloc: Global, file: &str) -> Result<(), Fault> {
     let answer = ask(alloc, connect_to(rt, alloc, file)?, Order::Stop)?;
     if answer.as_str().trim_end() == ENDED {
@@ -150,8 +150,8 @@ pub(crate) fn stop<R: Files + Net>(rt: &R, alloc: Global, file: &str) -> Result<
     }
 }
 
-/// How it goes with the server that runs on the store in a file. Where none runs, it is tried again
-/// for so many seconds.
+/// The status of the server that runs on the store in a file. If none runs, tries again for this
+/// number of seconds.
 pub(crate) fn status<R: Files + Net + Clock>(
     rt: &R,
     alloc: Global,
@@ -179,7 +179,8 @@ pub(crate) fn devices<R: Files + Net>(rt: &R, alloc: Global, file: &str) -> Resu
     unbroken(ask(alloc, connect_to(rt, alloc, file)?, Order::Devices)?)
 }
 
-// The lines of an answer, without the empty one behind them: where that lacks it was broken off.
+// The lines of an answer, without the empty one after them. If that is missing, the answer was cut
+// off.
 fn unbroken(answer: String) -> Result<String, Fault>
     ensures { MatchResult result
         (λ text. (string_bytes answer ≡ string_bytes text ++ 10 ∷ [])
@@ -193,8 +194,8 @@ fn unbroken(answer: String) -> Result<String, Fault>
     }
 }
 
-/// Tells on `out` what happens at the server that runs on the store in a file, until it ends, and
-/// gives what came of writing it. `Busy` where as many are told already as there may be.
+/// Prints on `out` the events of the server that runs on the store in a file, until it ends, and
+/// returns the result of writing them. `Busy` if the largest number of operators watches already.
 pub(crate) fn watch<R: Files + Net, O: Write>(
     rt: &R,
     alloc: Global,
@@ -218,7 +219,7 @@ pub(crate) fn watch<R: Files + Net, O: Write>(
     Ok(pass_on(&mut stream, out))
 }
 
-// Fills as much of the buffer as comes. How much that is.
+// Fills the buffer with what comes. Returns the length.
 fn fill_front(stream: &mut UnixStream, buffer: &mut [u8]) -> usize {
     let mut len: usize = 0;
     for _ in 0..buffer.len() {
@@ -234,8 +235,7 @@ fn fill_front(stream: &mut UnixStream, buffer: &mut [u8]) -> usize {
     len
 }
 
-// Writes what comes behind the first line, and that one too, as it comes, until the other end has
-// ended.
+// Writes the first line, and what comes after it, as it comes, until the other end closes.
 fn pass_on<O: Write>(stream: &mut UnixStream, out: &mut O) -> io::Result<()> {
     out.write_all(WATCHING.as_bytes())?;
     out.flush()?;

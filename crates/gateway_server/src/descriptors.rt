@@ -1,4 +1,4 @@
-// Whether the process may open what serving takes.
+// Whether the process may open the descriptors that serving needs.
 ghost use Rattle.std.specs.Prelude.{◌≡◌, ◌+◌, ◌*◌, ◌<◌, ◌⊎◌, IfOk, MatchResult, length};
 
 use crate::Fault;
@@ -13,17 +13,16 @@ use std::os::unix::net::UnixStream;
 // What a place takes: its link, and a second handle by which other threads close it.
 const OF_A_PLACE: u64 = 2;
 
-// What there is besides: standard input, output and error; the store; two listeners and a second
-// handle of each; two handles for each of eight operators; and eight for operators who wait for the
-// end.
+// Besides places: standard input, output and error; the store; two listeners and a second handle of
+// each; two handles for each of eight operators; and eight for operators that wait for the end.
 const OF_THE_SERVER: u64 = 32;
 
 // How many of these are open when the process begins: standard input, output and error.
 const STANDARD: u64 = 3;
 
-/// Opens, at once, as many descriptors as a server with N places takes besides the standard ones,
-/// so that a server that has begun never lacks one. Dropping them closes them. Refused with the
-/// whole number, 2 * N + 32, if the system gives fewer.
+/// Opens, at once, as many descriptors as a server with N places needs besides the standard ones,
+/// so that a server that has begun never runs out of them. Dropping them closes them. If the system
+/// gives fewer, refuses with the whole number, 2 * N + 32.
 pub(crate) fn hold_descriptors<R: Net>(
     rt: &R,
     alloc: Global,

@@ -4,10 +4,10 @@ use lw_types::{Eui, Refusal};
 use store_files::FileFault;
 use thiserror::Error;
 
-/// Why a command failed. Its text is what standard error has behind `lnsd: `.
+/// Why a command failed. Its text follows `lnsd: ` on standard error.
 #[derive(Debug, Drop, Error)]
 pub enum Fault {
-    /// A store is to be made in a file that is there already.
+    /// A store is to be made in a file that exists already.
     #[error("exists")]
     Exists,
     /// A file can't be made, or can't be opened to be read and written; or another process has it.
@@ -16,7 +16,7 @@ pub enum Fault {
     /// An address can't be listened on, or no link could be accepted there.
     #[error("listen")]
     Listen,
-    /// The process may not open as many descriptors as serving takes, which is this number.
+    /// The process may not open as many descriptors as serving needs, which is this number.
     #[error("descriptors {0}")]
     Descriptors(u64),
     /// The control socket can't be made, or isn't one.
@@ -28,10 +28,10 @@ pub enum Fault {
     /// A server ran on the store, and left its control socket.
     #[error("left over")]
     LeftOver,
-    /// The server broke off before it was done, or didn't answer.
+    /// The server closed the connection before it was done, or didn't answer.
     #[error("broken off")]
     BrokenOff,
-    /// As many operators watch as may.
+    /// The largest number of operators watches already.
     #[error("busy")]
     Busy,
     /// The record of restores of this path can't be read or written.
@@ -46,7 +46,7 @@ pub enum Fault {
     /// The system's clock can't be read.
     #[error("clock")]
     Clock,
-    /// The store refused, or its disk failed, or there was no memory.
+    /// The store refused, its disk failed, or memory ran out.
     #[error("refused {number}", number = .0.number())]
     Refused(Refusal),
 }

@@ -1,5 +1,5 @@
-//! The commands of `lnsd`: a store in a file is made, listed and served. What they do stands in the
-//! crates below; here files, addresses, the clock and the words that a user reads come to it.
+//! The commands of `lnsd`, which make, list and serve a store in a file. The crates below do the
+//! work; this one adds files, addresses, the clock and the texts that a user reads.
 #![tactic(auto)]
 
 mod commands;

@@ -21,13 +21,13 @@ use std::rt::{Clock, Files};
 use std::sync::Wait;
 use std::thread::Threads;
 
-/// Does what these words ask for, which come without the program's name, by the commands that are
-/// lent. `out` is standard output, `err` is standard error. Gives the status of the process: 0
-/// where it was done and told, also where help was asked for; 1 where it failed, or what it tells
-/// couldn't be written, or there was no memory to read the words; 2 for words that ask for nothing,
-/// and then nothing is done, or goes to `out`; 3 where `run` can't listen on its address, which may
-/// only come up later. That a failure is told on `err`, and that it was for want of memory where
-/// nothing was done, no contract says.
+/// Does what these words, without the program's name, ask for, by the commands that are lent. `out`
+/// is standard output, `err` is standard error. Returns the status of the process: 0 if it was done
+/// and printed, also if help was asked for; 1 if it failed, or its text couldn't be written, or
+/// there was no memory to read the words; 2 for words that ask for nothing, and then nothing is
+/// done, and nothing goes to `out`; 3 if `run` can't listen on its address, which may come up
+/// later. No contract says that a failure is printed on `err`, or that memory was out if nothing
+/// was done.
 pub fn command<R, C: Commands, O: Write, E: Write>(
     rt: &R,
     commands: &mut C,
@@ -47,7 +47,7 @@ where
         (IsDone (λ m outcome. C.ends commands.old m outcome commands.new)
         O.contents out.old out.new) }
 
-    // Where nothing was done, help was asked for, or nothing was told.
+    // If nothing was done, help was asked for, or nothing was printed.
     ensures failed { result ≡ 1
         → ((commands.new ≡ commands.old)
         × (AskForHelp (map (λ w. w.now) texts.now) ⊎ (out.new ≡ out.old)))
@@ -65,7 +65,7 @@ where
     }
 }
 
-// Does what was asked for, and gives the status of that.
+// Does what was asked for, and returns its status.
 fn carry_out<R, C: Commands, O: Write, E: Write>(
     rt: &R,
     commands: &mut C,
@@ -86,7 +86,7 @@ where
     }
 }
 
-// Tells why nothing is done, and gives the status of that.
+// Prints why nothing is done, and returns the status for it.
 fn tell_usage<O: Write, E: Write>(out: &mut O, err: &mut E, usage: Usage) -> u8
     ensures { HasUsageStatus usage O.contents out.old out.new result }
 {
@@ -100,7 +100,7 @@ fn tell_usage<O: Write, E: Write>(out: &mut O, err: &mut E, usage: Usage) -> u8
     }
 }
 
-/// Tells on standard error why a command failed, and gives the status of one that did, 1.
+/// Prints on standard error why a command failed, and returns the status of a failure, 1.
 pub fn fail<E: Write>(err: &mut E, fault: &Fault) -> u8
     ensures { result ≡ 1 }
 {
@@ -108,7 +108,7 @@ pub fn fail<E: Write>(err: &mut E, fault: &Fault) -> u8
     1
 }
 
-// Tells why what was asked for failed, and gives the status of that.
+// Prints why the command failed, and returns the status for it.
 fn fail_in<E: Write>(err: &mut E, mode: &Mode<'_>, fault: &Fault) -> u8
     ensures range { (result ≡ 1) ⊎ (result ≡ 3) }
     ensures one { result ≡ 1 → AsksToRun mode.now → fault.now ≢ Fault.Listen }
@@ -121,7 +121,7 @@ fn fail_in<E: Write>(err: &mut E, mode: &Mode<'_>, fault: &Fault) -> u8
     }
 }
 
-// Does what was asked for, and tells what is to be told of it.
+// Does what was asked for, and prints its text.
 fn obey<R, C: Commands, O: Write, E: Write>(
     rt: &R,
     commands: &mut C,
@@ -174,7 +174,7 @@ where
     }
 }
 
-// What was done tells nothing.
+// What was done prints nothing.
 fn tell_nothing(done: Result<(), Fault>) -> Result<io::Result<()>, Fault>
     ensures ok { IsOk done → result ≡ Ok (Ok tt) }
     ensures err { IfErr done (λ fault. result ≡ Err fault) }
@@ -185,7 +185,7 @@ fn tell_nothing(done: Result<(), Fault>) -> Result<io::Result<()>, Fault>
     }
 }
 
-// Tells the text that was asked for.
+// Prints the text that was asked for.
 fn tell_outcome<W: Write>(to: &mut W, text: Result<String, Fault>) -> Result<io::Result<()>, Fault>
     ensures ok { IfOk text (λ text. MatchResult result (λ told.
         OnOk told (Appends (W.contents to.old) (W.contents to.new) (string_bytes text))) (λ _. ⊥)) }
@@ -197,7 +197,7 @@ fn tell_outcome<W: Write>(to: &mut W, text: Result<String, Fault>) -> Result<io:
     }
 }
 
-// Writes this text whole.
+// Writes the whole text.
 fn tell<W: Write>(to: &mut W, text: &str) -> io::Result<()>
     ensures { OnOk result (Appends (W.contents to.old) (W.contents to.new) text.now) }
 {
@@ -205,7 +205,7 @@ fn tell<W: Write>(to: &mut W, text: &str) -> io::Result<()>
     to.flush()
 }
 
-// Tells how a life of links that all connected has ended.
+// Prints how a life of links that all connected has ended.
 fn tell_life<E: Write>(
     err: &mut E,
     life: Result<FinishedLife<'_>, Fault>,
@@ -222,7 +222,7 @@ fn tell_life<E: Write>(
     }
 }
 
-// Tells how a life of links that came and went has ended.
+// Prints how a life of links that came and went has ended.
 fn tell_run<E: Write>(
     err: &mut E,
     life: Result<FinishedLife<'_>, Fault>,
@@ -260,7 +260,7 @@ fn write_run<E: Write>(err: &mut E, report: &LifeReport) -> io::Result<()>
     err.flush()
 }
 
-// The status of a command that was done, by whether what it has to tell could be written.
+// The status of a command that was done: 0 if its text could be written, otherwise 1.
 fn status_of(told: &io::Result<()>) -> u8
     ensures range { result ≤ 1 }
     ensures told { (result ≡ 0) ↔ IsOk told.now }

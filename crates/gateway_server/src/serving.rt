@@ -1,4 +1,4 @@
-// A store in a file, served.
+// Serving a store in a file.
 ghost use Rattle.std.specs.Prelude.{◌≡◌, IfOk};
 
 use crate::Fault;
@@ -20,7 +20,7 @@ use std::sync::Wait;
 use std::thread::Threads;
 use timed_disk::DiskTimes;
 
-/// A life of a server that ended with no fault: what it was asked for by, and its report. Only
+/// A life of a server that ended without a fault: the mode that asked for it, and its report. Only
 /// [`serve`] and [`run_server`] make one.
 #[derive(Drop)]
 pub struct FinishedLife<'a> {
@@ -36,7 +36,7 @@ impl<'a> FinishedLife<'a> {
     }
 }
 
-/// Serves so many links, which connect to an address, from the store in a file.
+/// Serves this number of links, which connect to an address, from the store in a file.
 pub(crate) fn serve<'a, R>(
     rt: &R,
     alloc: Global,
@@ -70,9 +70,9 @@ where
     }
 }
 
-/// Serves links that come and go, so many at a time, from the store in a file, until the server is
-/// stopped over its control socket. Prints on `out` where it listens, once the life has begun.
-/// Whoever stopped it is told of the end once the file is free.
+/// Serves links that come and go, at most this number at a time, from the store in a file, until
+/// the server is stopped over its control socket. Prints on `out` where it listens, when the life
+/// has begun. Informs the operator who stopped it when the file is free.
 pub(crate) fn run_server<'a, R, O: Write>(
     rt: &R,
     alloc: Global,
@@ -166,7 +166,7 @@ struct Entrance<C: Clock> {
     control: UnixListener,
 }
 
-// Whoever connects from here on is served once the life has begun.
+// A client that connects from here on is served when the life has begun.
 fn open_up<'x, R>(
     rt: &'x R,
     alloc: Global,
@@ -192,7 +192,7 @@ where
     })
 }
 
-// Prints where the server listens once its life has begun. The server goes on if that can't be
+// Prints where the server listens when its life has begun. The server continues if that can't be
 // printed.
 #[derive(Drop)]
 struct ListeningNotice<'a, O: Write> {
@@ -208,7 +208,7 @@ impl<'a, O: Write> OnBegun for ListeningNotice<'a, O> {
     }
 }
 
-// Whoever waits is told that it is done, or why not.
+// Sends to each operator who waits that it is done, or why not.
 fn tell_end(waiting: Vec<UnixStream>, ended: &Result<FinishedLife<'_>, Fault>) {
     for stream in waiting {
         let mut stream = stream;

@@ -16,15 +16,15 @@ use store::{Store, format_back, open};
 use store_files::{FileFault, create, remove_new};
 use timed_disk::{DiskTimes, TimedDisk};
 
-/// The store of a file, and what is told of it.
+/// The store of a file, and what is printed about it.
 #[derive(Drop)]
 pub(crate) struct ToldStore {
     pub(crate) store: Store<FileDisk>,
     pub(crate) text: String,
 }
 
-/// Makes a store without devices in a new file. Where that fails the file is removed again, unless
-/// it was there before; a removal that fails is passed over.
+/// Makes a store without devices in a new file. If that fails, the file is removed again, unless it
+/// existed before. A removal that fails is ignored.
 pub(crate) fn format<R: Files<File = File>>(
     rt: &R,
     alloc: Global,

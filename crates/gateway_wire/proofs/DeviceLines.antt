@@ -1,4 +1,4 @@
--- The lines of one device more.
+-- The lines of one more device.
 use Rattle.std.proofs.Common.{◌≡◌, ◌≤◌, ◌∙◌, ap, sym, append_assoc, append-nil, arith, length, take, get_or, ℕ, ◌+◌, ◌<◌, suc, List, [], ◌∷◌, ◌++◌}
 use Rattle.std.proofs.lemmas.List.{take_more, length-take-le}
 use Rattle.devices.specs.declared.device.Device.{Device}

@@ -17,7 +17,7 @@ unfolding field_text hex_text
 length-field [] = omega arith
 length-field (byte ∷ bytes) = omega (arith, length-encode_with upper_digits (byte ∷ bytes))
 
--- of each word, with the space behind it
+-- the letters of each word, with the space after it
 abbrev pub letters : List (List ℕ) → ℕ
 letters [] = 0
 letters (word ∷ words) = length word + (1 + letters words)

@@ -1,4 +1,4 @@
--- A request is found of its words, and only one is.
+-- A request is found from its words, and only one request is.
 use Rattle.std.proofs.Common.{◌≡◌, ◌<◌, ◌^◌, ◌↔◌, ℕ, Bool, true, false, List, [], ◌∷◌, Option, Some, None, Result, Ok, Err, refl, sym, ap, subst, ◌∙◌, arith, inl, inr, ◌⊎◌}
 use Rattle.std.proofs.lemmas.Bool.{eq-eqb}
 use Rattle.std.specs.Prelude.{◌==◌, IfErr, IfOk, IfSome, MatchResult, codes}
@@ -14,9 +14,9 @@ use Rattle.gateway_wire.specs.declared.request.Request.TheVariants.{Provision, Q
 use Rattle.gateway_wire.specs.Request.{AreRequestWords, IsRequestInRange, IsRequestOf, confirmed_text, request_words}
 use Rattle.gateway_wire.specs.Finding.{AreItemFields, AreLast, Finds, item_words}
 
--- ---- the public clauses, of what is found
+-- ---- the public clauses, about what is found
 
--- the laws of texts that this file stands on
+-- the laws of texts that this file uses
 pub record OneText : Type 0 where
   pub euis : (a b : Eui) → a.0 < 2 ^ 64 → b.0 < 2 ^ 64 → eui_text a ≡ eui_text b → a ≡ b
   pub keys : (a b : Key) → IsBytes a.0 → IsBytes b.0 → key_text a ≡ key_text b → a ≡ b
@@ -118,7 +118,7 @@ provision_found left o result e found only = subst (Finds (IsRequestOf (codes "p
 
 -- ---- items and MAC commands
 
--- no item's words, where no item's fields stand at the front
+-- the words of no item, if no item's fields are at the front
 pub no_item : (left : List (List ℕ)) → ((d : Eui) (t : Tag) (p : ℕ) (c : Bool) (payload : List ℕ) → AreItemFields d t p → IsBytes payload → left ≡ item_words d t p c (field_text payload ∷ []) → ⊥)
     → ¬ ((r : Request) × IsRequestOf (codes "queue" ∷ left) r)
 no_item left none are = by are.0 are.1.0 are.1.1
@@ -128,7 +128,7 @@ no_item left none are = by are.0 are.1.0 are.1.1
     by (Queue d t p c payload) h is = none d t p c payload (h.0, h.1, h.2) h.3 cc
     by (Mac d commands) h is = absurd (apart 113 109 refl cc)
 
--- the payload behind an item's fields
+-- the payload after an item's fields
 pub item_found : (left others : List (List ℕ)) (d : Eui) (t : Tag) (p : ℕ) (c : Bool) (payload : Result (List ℕ) Refusal) → AreItemFields d t p → left ≡ item_words d t p c others
     → ((d' : Eui) (t' : Tag) (p' : ℕ) (c' : Bool) (rest : List (List ℕ)) → AreItemFields d' t' p' → left ≡ item_words d' t' p' c' rest → others ≡ rest)
     → Finds (AreLast others) payload → MatchResult payload (λ bytes. IsRequestOf (codes "queue" ∷ left) (Queue d t p c bytes)) (λ e. Finds {X = Request} (IsRequestOf (codes "queue" ∷ left)) (Err e))

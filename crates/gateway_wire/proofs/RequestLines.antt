@@ -12,7 +12,7 @@ use Rattle.gateway_wire.specs.declared.request.Request.{Request}
 use Rattle.gateway_wire.specs.declared.request.Request.TheVariants.{Provision, Queue, Mac}
 use Rattle.gateway_wire.specs.Request.{IsRequestInRange, confirmed_text, request_line, request_words}
 
--- the laws of texts that this file stands on
+-- the laws of texts that this file uses
 pub record Texts : Type 0 where
   pub words : (words : List (List ℕ)) → AreWords words → words_of (line_of words) ≡ words
   pub euis : (eui : Eui) → IsWord (eui_text eui)
@@ -45,7 +45,7 @@ are_words texts (Mac dev_eui commands) h =
 pub request_line_words : Texts → (line : List ℕ) (r : Request) → IsRequestInRange r → line ≡ request_line r → words_of line ≡ request_words r
 request_line_words texts line r h is = ap words_of is ∙ texts.words (request_words r) (are_words texts r h)
 
--- words that were read make a line again
+-- joining words that were read gives the line again
 pub read_back : (result : Result Request Refusal) (words : List (List ℕ)) (line : List ℕ) → line_of words ≡ line
     → IfOk result (λ r. IsRequestInRange r × (words ≡ request_words r)) → IfOk result (λ r. IsRequestInRange r × (line ≡ request_line r))
 read_back (Ok r) words line is h = (h.0, sym is ∙ ap line_of h.1)

@@ -1,4 +1,4 @@
--- What an application is told: a frame of the wire with a line.
+-- A line to an application, as a frame of the wire.
 use Rattle.std.specs.Prelude.{ℕ, List, [], ◌∷◌, Result, Ok, Err, length, nat_lt, if◌then◌else◌}
 use Rattle.std.specs.Prelude.{codes}
 use Rattle.std.specs.Fmt.{decimal}
@@ -13,11 +13,11 @@ use Rattle.gateway_wire.specs.declared.answer.TheConstants.{ANSWER, LONGEST_ANSW
 abbrev pub answer_frame : List ℕ → List ℕ
 answer_frame line = wire_frame (ANSWER ∷ line)
 
--- of a line that fits a frame
+-- the frame of a line, if it fits
 abbrev pub short_answer_frame : List ℕ → Result (List ℕ) Refusal
 short_answer_frame line =
     if nat_lt LONGEST_ANSWER (length line) then Err FrameTooLong else Ok (answer_frame line)
 
--- the answer to a request that was refused
+-- the answer to a refused request
 abbrev pub refused_line : Refusal → List ℕ
 refused_line refusal = line_of (codes "refused" ∷ decimal (number_of refusal) ∷ [])

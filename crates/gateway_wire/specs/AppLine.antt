@@ -1,5 +1,4 @@
--- What is reported to an application of its device: a line of words, each parted from the next by
--- one space.
+-- The reports to an application about its device: a line of words, separated by one space each.
 use Rattle.std.specs.Prelude.{ℕ, List, [], ◌∷◌, codes}
 use Rattle.std.specs.Fmt.{decimal, signed_decimal}
 use Rattle.lw_types.specs.Hex.{eui_text, field_text}
@@ -11,7 +10,7 @@ use Rattle.devices.specs.declared.effect.Report.{Report}
 use Rattle.devices.specs.declared.effect.Report.TheVariants.{Provisioned, Queued, MacQueued, Acked}
 use Rattle.devices.specs.declared.effect.Report.TheVariants.{Lost, Mac, Spent}
 
--- a report: its name, the DevEUI, and what it tells
+-- a report: its name, the DevEUI, and its values
 abbrev pub report_words : Eui → Report → List (List ℕ)
 report_words dev_eui (Provisioned slot) = codes "provisioned" ∷ eui_text dev_eui ∷ decimal slot ∷ []
 report_words dev_eui (Queued tag) = codes "queued" ∷ eui_text dev_eui ∷ decimal tag.0 ∷ []
@@ -26,15 +25,15 @@ report_words dev_eui (Spent join_nonce) = codes "spent" ∷ eui_text dev_eui ∷
 abbrev pub report_line : Eui → Report → List ℕ
 report_line dev_eui report = line_of (report_words dev_eui report)
 
--- how many gateways heard an uplink, and how the best of them did: the gateway, Hz, data rate, SNR
--- in quarter dB, RSSI in dBm
+-- the number of gateways that heard an uplink, and the best reception: the gateway, Hz, data rate,
+-- SNR in quarter dB, RSSI in dBm
 abbrev pub heard_words : ℕ → Reception → List (List ℕ)
 heard_words copies best =
     decimal copies ∷ eui_text best.gateway ∷ decimal best.frequency ∷ decimal best.data_rate
     ∷ signed_decimal best.snr
     ∷ signed_decimal best.rssi ∷ []
 
--- a payload under its session and counter, and who heard it
+-- a payload with its session and counter, and how it was heard
 abbrev pub up_words : SessionName → ℕ → ℕ → List ℕ → ℕ → Reception → List (List ℕ)
 up_words session counter port payload copies best =
     codes "up" ∷ eui_text session.dev_eui ∷ decimal session.join_nonce ∷ decimal counter

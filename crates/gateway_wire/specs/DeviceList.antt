@@ -1,4 +1,5 @@
--- The list of a network's devices: a line of words for each, in order of slot, and a last line.
+-- The list of a network's devices: a line of words for each device, in order of slot, and a last
+-- line.
 use Rattle.std.specs.Prelude.{ℕ, ◌+◌, List, [], ◌∷◌, ◌++◌, length, codes, Option, Some, None}
 use Rattle.std.specs.Prelude.{unwrap_or}
 use Rattle.std.specs.Fmt.{decimal}
@@ -17,7 +18,7 @@ session_words None rest = codes "-" ∷ codes "-" ∷ codes "-" ∷ rest
 session_words (Some current) rest =
     decimal current.session.join_nonce ∷ decimal current.last_up ∷ decimal current.next_down ∷ rest
 
--- the current session, how many items wait, and how many uplinks were counted
+-- the current session, the number of waiting items, and the number of uplinks counted
 abbrev pub traffic_words : Device → List (List ℕ)
 traffic_words d =
     session_words d.activation.current (decimal (length d.items) ∷ decimal d.heard ∷ [])
@@ -33,7 +34,7 @@ abbrev pub device_lines : ℕ → List Device → List ℕ
 device_lines slot [] = []
 device_lines slot (d ∷ devices) = device_line slot d ++ device_lines (slot + 1) devices
 
--- how many devices there are, and the number of the last decision
+-- the number of devices, and the number of the last decision
 abbrev pub last_line : ℕ → ℕ → List ℕ
 last_line count seq =
     with_newline (codes "devices" ∷ decimal count ∷ codes "seq" ∷ decimal seq ∷ [])

@@ -1,4 +1,4 @@
--- What a gateway learns of a frame that it is to send: numbers with the highest byte first.
+-- The frame that asks a gateway to send a downlink: numbers with the highest byte first.
 use Rattle.std.specs.Prelude.{ℕ, ◌+◌, List, ◌∷◌, ◌++◌}
 use Rattle.std.specs.Int.{w32, w64, to_be_bytes}
 use Rattle.devices.specs.declared.effect.Downlink.{Downlink}
@@ -7,7 +7,7 @@ use Rattle.devices.specs.declared.effect.ReceiveWindows.TheVariants.{Rx1, Rx1OrR
 use Rattle.link_messages.specs.Wire.{wire_frame}
 use Rattle.gateway_wire.specs.declared.downlink.TheConstants.{DOWNLINK}
 
--- RX2 is one second after RX1 (RECEIVE_DELAY2); 0 where it isn't to be used
+-- RX2 is one second after RX1 (RECEIVE_DELAY2); 0 if it isn't to be used
 abbrev pub rx2_delay : ReceiveWindows → ℕ → ℕ
 rx2_delay Rx1 rx1_delay = 0
 rx2_delay Rx1OrRx2 rx1_delay = rx1_delay + 1

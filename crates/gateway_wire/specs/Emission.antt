@@ -1,4 +1,4 @@
--- What leaves the network by an effect, and on whose link.
+-- What leaves the network because of an effect, and on whose link.
 use Rattle.std.specs.Prelude.{ℕ, ◌≤◌, List, Option, Some, None, length}
 use Rattle.devices.specs.declared.effect.Effect.{Effect}
 use Rattle.devices.specs.declared.effect.Effect.TheVariants.{Forward, Accept, Down, Report}
@@ -11,7 +11,7 @@ use Rattle.gateway_wire.specs.declared.recipient.Recipient.TheVariants as recipi
 use Rattle.gateway_wire.specs.AppLine.{up_line, report_line}
 use Rattle.gateway_wire.specs.Downlink.{downlink_frame}
 
--- payloads and reports go to the device's application, frames for the device to the gateway that
+-- payloads and reports go to the device's application, frames for the device go to the gateway that
 -- heard it best
 abbrev pub emission : Effect → Emission
 emission (Forward application session counter port payload copies best) =
@@ -25,7 +25,7 @@ abbrev pub FitsFrame : Emission → Type 0
 FitsFrame (Application application line) = length line ≤ LONGEST_ANSWER
 FitsFrame (Gateway gateway frame) = length frame ≤ LONGEST_WIRE_FRAME
 
--- on whose link that is
+-- the gateway or the application on whose link that leaves
 abbrev pub recipient_in : Emission → Recipient
 recipient_in (Application application line) = recipients.Application application
 recipient_in (Gateway gateway frame) = recipients.Gateway gateway
@@ -41,10 +41,10 @@ abbrev pub frame_in : Emission → Option (List ℕ)
 frame_in (Application application line) = None
 frame_in (Gateway gateway frame) = Some frame
 
--- the line that an effect is to an application
+-- the line that an effect sends to an application
 abbrev pub app_line : Effect → Option (List ℕ)
 app_line effect = line_in (emission effect)
 
--- the frame that an effect is to a gateway
+-- the frame that an effect sends to a gateway
 abbrev pub gateway_bytes : Effect → Option (List ℕ)
 gateway_bytes effect = frame_in (emission effect)

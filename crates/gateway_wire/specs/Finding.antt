@@ -1,4 +1,4 @@
--- What the functions that read a request answer.
+-- What the functions that read a request return.
 use Rattle.std.specs.Prelude.{◌≡◌, ℕ, ◌<◌, ◌^◌, ◌⊎◌, Bool, List, [], ◌∷◌, Result, Ok, Err}
 use Rattle.std.specs.Fmt.{decimal}
 use Rattle.lw_types.specs.Hex.{IsBytes, eui_text, field_text}
@@ -8,8 +8,8 @@ use Rattle.lw_types.specs.declared.refusal.Refusal.TheVariants.{BadMessage, OutO
 use Rattle.devices.specs.declared.Tag.{Tag}
 use Rattle.gateway_wire.specs.Request.{confirmed_text}
 
--- A reader finds a value that is wanted. It is refused as BadMessage only where there is none, and
--- as OutOfMemory only where there may be one.
+-- A reader finds a wanted value. It refuses with BadMessage only if there is none, and with
+-- OutOfMemory only if there may be one.
 abbrev pub Finds : {X : Type 0} → (X → Type 0) → Result X Refusal → Type 0
 Finds IsWanted (Ok found) = IsWanted found
 Finds {X} IsWanted (Err e) =

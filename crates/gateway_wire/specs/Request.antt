@@ -1,4 +1,4 @@
--- What applications ask for: a line of words, each parted from the next by one space.
+-- The requests of applications: a line of words, separated by one space each.
 use Rattle.std.specs.Prelude.{◌≡◌, ℕ, ◌<◌, ◌≤◌, ◌^◌, Bool, true, false, List, [], ◌∷◌, length}
 use Rattle.std.specs.Prelude.{codes}
 use Rattle.std.specs.Fmt.{decimal}
@@ -9,7 +9,7 @@ use Rattle.devices.specs.declared.command.Command.TheVariants as command
 use Rattle.gateway_wire.specs.declared.request.Request.{Request}
 use Rattle.gateway_wire.specs.declared.request.Request.TheVariants.{Provision, Queue, Mac}
 
--- `c` where the device is to acknowledge the item
+-- `c` if the device has to acknowledge the item
 unfoldable pub confirmed_text : Bool → List ℕ
 confirmed_text true = codes "c"
 confirmed_text false = codes "u"
@@ -27,7 +27,7 @@ request_words (Mac dev_eui commands) = codes "mac" ∷ eui_text dev_eui ∷ fiel
 abbrev pub request_line : Request → List ℕ
 request_line r = line_of (request_words r)
 
--- the fields are in their ranges
+-- the fields are in range
 abbrev pub IsRequestInRange : Request → Type 0
 IsRequestInRange (Provision dev_eui join_eui app_key rx1_offset rx_delay) =
     (dev_eui.0 < 2 ^ 64) × (join_eui.0 < 2 ^ 64) × (IsBytes app_key.0 × (length app_key.0 ≡ 16))
@@ -48,7 +48,7 @@ AreRequestWords words = (r : Request) × IsRequestInRange r × (words ≡ reques
 abbrev pub IsRequestLine : List ℕ → Type 0
 IsRequestLine line = (r : Request) × IsRequestInRange r × (line ≡ request_line r)
 
--- the command that an application asks for by a request
+-- the command of a request, for the application that asks
 abbrev pub command_of : ℕ → Request → Command
 command_of application (Provision dev_eui join_eui app_key rx1_offset rx_delay) =
     command.Provision (record {

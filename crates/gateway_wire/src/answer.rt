@@ -1,4 +1,4 @@
-// What an application is told, as a frame of the wire.
+// Lines to applications, as frames of the wire.
 ghost use Rattle.std.specs.Prelude.{◌≡◌, ◌≤◌, ◌∷◌, [], codes, length, IfOk, MatchResult};
 ghost use Rattle.std.specs.Fmt.{decimal};
 ghost use Rattle.lw_types.specs.Words.{line_of};
@@ -10,7 +10,7 @@ use link_messages::Line;
 use lw_types::{Bytes, Refusal};
 use std::alloc::{AllocError, Global};
 
-/// The kind of content that an answer to an application is.
+/// The first byte of the content of an answer to an application.
 pub const ANSWER: u8 = 0x13;
 
 /// The most bytes of an answer's line: its frame has a content of at most 700.
@@ -19,11 +19,11 @@ pub const LONGEST_ANSWER: usize = 699;
 /// The most bytes of a frame of the wire for an application.
 pub const LONGEST_ANSWER_FRAME: usize = 2 + 1 + LONGEST_ANSWER;
 
-/// A frame of the wire for an application, the two bytes of its length in front.
+/// A frame of the wire for an application. The two bytes of its length come first.
 pub type AnswerFrame = Bytes<LONGEST_ANSWER_FRAME>;
 
-/// The whole frame that tells an application this line. Refused with `FrameTooLong` exactly where
-/// the line has more than 699 bytes, else with `OutOfMemory` for want of memory.
+/// The whole frame that sends this line to an application. Refused with `FrameTooLong` exactly if
+/// the line has more than 699 bytes, otherwise with `OutOfMemory` if memory runs out.
 pub fn answer_frame(alloc: Global, line: &Line) -> Result<AnswerFrame, Refusal>
     ensures { Answers (short_answer_frame line.now) (λ wanted frame. frame ≡ wanted) result }
 {
@@ -40,8 +40,7 @@ pub fn answer_frame(alloc: Global, line: &Line) -> Result<AnswerFrame, Refusal>
     Ok(frame.unwrap())
 }
 
-/// The line that answers a request which was refused. Refused with `OutOfMemory` for want of
-/// memory.
+/// The line that answers a refused request. Refused with `OutOfMemory` if memory runs out.
 pub fn refused_line(alloc: Global, refusal: Refusal) -> Result<Line, Refusal>
     ensures line { MatchResult result (λ line. line ≡ refused_line refusal)
         (λ e. e ≡ OutOfMemory) }
@@ -50,7 +49,7 @@ pub fn refused_line(alloc: Global, refusal: Refusal) -> Result<Line, Refusal>
     Ok(line_of_number(alloc, refusal.number())?)
 }
 
-// The line of a refusal's number.
+// The line with the number of a refusal.
 #[tactic(auto, unfolding(lw_types::specs::Words::line_of))]
 fn line_of_number(alloc: Global, number: u8) -> Result<Line, AllocError>
     ensures line { IfOk result (λ line. line ≡ line_of (codes "refused" ∷ decimal number ∷ [])) }

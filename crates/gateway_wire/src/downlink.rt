@@ -6,16 +6,16 @@ use devices::{Downlink, ReceiveWindows};
 use lw_types::{Bytes, LONGEST_FRAME};
 use std::alloc::{AllocError, Global};
 
-/// The kind of content that a downlink is.
+/// The first byte of the content of a downlink.
 pub const DOWNLINK: u8 = 0x11;
 
-/// How many bytes of content stand before the PHYPayload.
+/// The number of bytes of content before the PHYPayload.
 const HEAD: usize = 20;
 
 /// The most bytes of a frame of the wire for a gateway.
 pub const LONGEST_WIRE_FRAME: usize = 2 + HEAD + LONGEST_FRAME;
 
-/// A frame of the wire for a gateway, the two bytes of its length in front.
+/// A frame of the wire for a gateway. The two bytes of its length come first.
 pub type WireFrame = Bytes<LONGEST_WIRE_FRAME>;
 
 /// The whole frame that asks a gateway to send a downlink.
@@ -38,8 +38,7 @@ pub(crate) fn downlink_frame(alloc: Global, downlink: &Downlink) -> Result<WireF
     Ok(frame.unwrap())
 }
 
-// The delay of RX2 in seconds, which is one above that of RX1 (RECEIVE_DELAY2); 0 where RX2 isn't
-// to be used.
+// The delay of RX2 in seconds, one above that of RX1 (RECEIVE_DELAY2); 0 if RX2 isn't to be used.
 fn rx2_delay(windows: ReceiveWindows, rx1_delay: u8) -> u8
     requires { rx1_delay ≤ 15 }
     ensures { result ≡ rx2_delay windows rx1_delay }

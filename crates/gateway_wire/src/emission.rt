@@ -1,4 +1,4 @@
-// What leaves the network by an effect.
+// What leaves the network because of an effect.
 ghost use Rattle.std.specs.Prelude.{◌≡◌, IsSome, MatchBool, MatchResult, None};
 ghost use Rattle.lw_types.specs.declared.refusal.Refusal.TheVariants.{OutOfMemory};
 ghost use Rattle.gateway_wire.specs.Emission.{app_line, gateway_bytes};
@@ -11,7 +11,7 @@ use link_messages::Line;
 use lw_types::{Eui, Refusal};
 use std::alloc::Global;
 
-/// What leaves the network by an effect, and on whose link.
+/// What leaves the network because of an effect, and on whose link.
 #[derive(Clone, PartialEq, Eq, Drop)]
 pub enum Emission {
     /// A frame, for a gateway.
@@ -30,8 +30,9 @@ impl Emission {
     ghost use Rattle.std.specs.Prelude.{IfOk};
     ghost use Rattle.gateway_wire.specs.Emission.{emission, FitsFrame};
 
-    /// What leaves by this effect: payloads and reports go to the device's application, frames for
-    /// the device to the gateway that heard it best. Each is short enough for a frame of the wire.
+    /// What leaves because of this effect. Payloads and reports go to the device's application,
+    /// frames for the device go to the gateway that heard it best. Each is short enough for a frame
+    /// of the wire.
     pub fn of(alloc: Global, effect: &Effect) -> Result<Emission, Refusal>
         ensures emission { MatchResult result (λ e. e ≡ emission effect.now)
             (λ e. e ≡ OutOfMemory) }
@@ -78,8 +79,8 @@ impl Emission {
     }
 }
 
-/// The line that tells an application of this effect; `None`, whether or not there is memory, where
-/// it is for a gateway.
+/// The line that this effect sends to an application. `None`, whether or not memory is available,
+/// if the effect is for a gateway.
 pub fn app_line(alloc: Global, effect: &Effect) -> Result<Option<Line>, Refusal>
     ensures { MatchResult result (λ line. line ≡ app_line effect.now)
         (λ e. (e ≡ OutOfMemory) × IsSome (app_line effect.now)) }
@@ -93,8 +94,8 @@ pub fn app_line(alloc: Global, effect: &Effect) -> Result<Option<Line>, Refusal>
     }
 }
 
-/// The frame, with its length, that tells a gateway of this effect; `None`, whether or not there is
-/// memory, where it is for an application.
+/// The frame, with its length, that this effect sends to a gateway. `None`, whether or not memory
+/// is available, if the effect is for an application.
 pub fn gateway_bytes(alloc: Global, effect: &Effect) -> Result<Option<WireFrame>, Refusal>
     ensures { MatchResult result (λ frame. frame ≡ gateway_bytes effect.now)
         (λ e. (e ≡ OutOfMemory) × IsSome (gateway_bytes effect.now)) }

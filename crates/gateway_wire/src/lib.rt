@@ -1,4 +1,4 @@
-//! What is said on the links: frames for gateways, lines of applications and to them, and the list
+//! The formats of the links: frames for gateways, lines from applications and to them, and the list
 //! of a network's devices.
 #![tactic(auto)]
 

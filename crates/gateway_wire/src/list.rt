@@ -9,8 +9,8 @@ use lw_types::{JoinNonce, Refusal};
 use std::alloc::{AllocError, Global};
 use std::fmt;
 
-/// A line for each device of a table, in order of slot, and a last line with their number and
-/// `seq`, the number of the last decision. Each line ends with a newline.
+/// A line for each device of a table, in order of slot, and a last line. The last line has the
+/// number of devices, and `seq`, the number of the last decision. Each line ends with a newline.
 pub fn list_text(alloc: Global, devices: &[Device], seq: u64) -> Result<String, Refusal>
     ensures { MatchResult result (λ text. string_bytes text ≡ list_text devices.now seq)
         (λ e. e ≡ OutOfMemory) }
@@ -25,7 +25,7 @@ pub fn list_text(alloc: Global, devices: &[Device], seq: u64) -> Result<String, 
     Ok(text)
 }
 
-// How many devices there are, and the number of the last decision.
+// The number of devices, and the number of the last decision.
 #[tactic(auto, unfolding(lw_types::specs::Words::line_of))]
 fn last_line(alloc: Global, count: usize, seq: u64) -> Result<String, AllocError>
     ensures { IfOk result (λ text. string_bytes text ≡ last_line count seq) }
@@ -34,8 +34,8 @@ fn last_line(alloc: Global, count: usize, seq: u64) -> Result<String, AllocError
     Ok(text)
 }
 
-// Slot, DevEUI, last JoinNonce granted, the current session with its counters, how many items wait,
-// and how many uplinks were counted.
+// Slot, DevEUI, last JoinNonce granted, the current session with its counters, the number of
+// waiting items, and the number of uplinks counted.
 #[tactic(auto, unfolding(lw_types::specs::Words::line_of))]
 fn device_line(alloc: Global, slot: usize, device: &Device) -> Result<String, AllocError>
     ensures { IfOk result (λ text. string_bytes text ≡ device_line slot device.now) }
@@ -47,7 +47,8 @@ fn device_line(alloc: Global, slot: usize, device: &Device) -> Result<String, Al
     Ok(text)
 }
 
-// The current session with its counters, how many items wait, and how many uplinks were counted.
+// The current session with its counters, the number of waiting items, and the number of uplinks
+// counted.
 #[derive(Clone, Copy)]
 struct Traffic<'a>(&'a Device);
 
@@ -73,7 +74,7 @@ impl fmt::Display for Traffic<'_> {
     }
 }
 
-// The number of a JoinNonce, and 0 for none.
+// The number of a JoinNonce, 0 if there is none.
 fn nonce_number(join_nonce: Option<JoinNonce>) -> u32
     ensures { result ≡ unwrap_or join_nonce 0 }
 {

@@ -1,10 +1,10 @@
-// Who is told of an effect.
+// Where an effect goes.
 ghost use Rattle.std.specs.Prelude.{◌≡◌};
 
 use devices::{Application, Effect};
 use lw_types::Eui;
 
-/// On whose link an effect leaves.
+/// The gateway or the application on whose link an effect leaves.
 #[derive(Clone, Copy, PartialEq, Eq)]
 pub enum Recipient {
     Gateway(Eui),
@@ -14,8 +14,8 @@ pub enum Recipient {
 impl Recipient {
     ghost use Rattle.gateway_wire.specs.Emission.{recipient};
 
-    /// Of this effect: the gateway that heard the device best, or the device's application. Takes
-    /// no memory.
+    /// The recipient of this effect: the gateway that heard the device best, or the device's
+    /// application. Takes no memory.
     pub fn of(effect: &Effect) -> Self
         ensures { result ≡ recipient effect.now }
     {

@@ -1,4 +1,4 @@
-// What is reported to applications of their devices.
+// The reports to applications about their devices.
 ghost use Rattle.std.specs.Prelude.{◌≡◌, ◌≤◌, ◌<◌, ◌+◌, ◌^◌, ◌∷◌, [], length, FitsSigned, IfOk};
 ghost use Rattle.std.specs.Int.{w16};
 ghost use Rattle.std.specs.Fmt.{decimal};
@@ -38,7 +38,7 @@ pub(crate) fn report_line(alloc: Global, dev_eui: Eui, report: &Report) -> Resul
     }
 }
 
-// The line of a report that tells a number.
+// The line of a report with a number.
 #[tactic(auto, unfolding(lw_types::specs::Words::line_of))]
 fn number_line(alloc: Global, name: &str, dev_eui: Eui, number: u32) -> Result<Line, AllocError>
     ensures line { IfOk result (λ line. line
@@ -77,8 +77,8 @@ fn sent_line(
     Ok(Line::new(text))
 }
 
-/// A payload under its session and counter, how many gateways heard it, and how the best of them
-/// did.
+/// A payload with its session and counter, the number of gateways that heard it, and the best
+/// reception.
 #[derive(Clone, Copy)]
 pub(crate) struct UpFields<'a> {
     pub session: &'a SessionName,
@@ -89,7 +89,7 @@ pub(crate) struct UpFields<'a> {
     pub best: &'a Reception,
 }
 
-// How many gateways heard an uplink, and how the best of them did.
+// The number of gateways that heard an uplink, and the best reception.
 #[derive(Clone, Copy)]
 struct HeardFields<'a> {
     copies: Copies,
@@ -112,7 +112,7 @@ impl fmt::Display for HeardFields<'_> {
     }
 }
 
-// The ranges of an uplink's numbers, which are those of their types.
+// The ranges of an uplink's numbers, which their types give.
 fn numbers_are_in_range(counter: u32, best: Reception)
     ensures counter { counter < 2 ^ 32 }
     ensures frequency { best.frequency < 2 ^ 32 }
@@ -129,10 +129,10 @@ fn numbers_are_in_range(counter: u32, best: Reception)
     } = best;
 }
 
-// The bytes that the line of a payload mostly fits into.
+// The length that the line of a payload usually doesn't exceed.
 const USUAL_LINE: usize = 160;
 
-/// The line of a payload, under its session and counter, and of who heard it.
+/// The line of a payload, with its session and counter, and how it was heard.
 #[tactic(auto, unfolding(lw_types::specs::Words::line_of))]
 pub(crate) fn up_line(alloc: Global, up: &UpFields<'_>) -> Result<Line, AllocError>
     ensures line { IfOk result (λ line. line
@@ -142,7 +142,7 @@ pub(crate) fn up_line(alloc: Global, up: &UpFields<'_>) -> Result<Line, AllocErr
 {
     let (dev_eui, nonce) = (up.session.dev_eui, up.session.join_nonce.get());
     let (counter, port) = (up.counter, up.port.get());
-    // that the line fits a frame stands on the ranges of its numbers
+    // these ranges of the numbers are why the line fits a frame
     let _copies = up.copies.get();
     numbers_are_in_range(counter, *up.best);
     let hex = ByteField(up.payload.as_slice());

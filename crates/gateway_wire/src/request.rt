@@ -1,4 +1,4 @@
-// What applications ask for.
+// The requests of applications.
 ghost use Rattle.std.specs.Prelude.{◌≡◌, ◌↔◌, ◌∷◌, ◌⊎◌, ◌<◌, ◌^◌, Bool, ℕ, List, [], IfSome, IfOk};
 ghost use Rattle.std.specs.Prelude.{IfErr, Some, Err, MatchResult, codes};
 ghost use Rattle.lw_types.specs.declared.refusal.Refusal.TheVariants.{BadMessage, OutOfMemory};
@@ -21,7 +21,7 @@ use devices::{
 use lw_types::{Eui, Key, Refusal, Words, laws};
 use std::alloc::Global;
 
-/// What an application asks for on its link.
+/// A request that an application sends on its link.
 #[derive(Clone, PartialEq, Eq, Drop)]
 pub enum Request {
     /// `provision`: a new device is provisioned.
@@ -48,14 +48,14 @@ pub enum Request {
 }
 
 impl Request {
-    /// The command of this request, asked by an application.
+    /// The command of this request, for the application that asks.
     pub fn into_command(self, application: Application) -> Command
         ensures { result ≡ command_of application self }
     {
         self.asked_by(application).into_command()
     }
 
-    /// What an application asks for by this request.
+    /// The application command of this request, for the application that asks.
     pub fn asked_by(self, application: Application) -> ApplicationCommand
         ensures { as_command result ≡ command_of application self }
     {
@@ -97,8 +97,8 @@ impl Request {
     }
 }
 
-/// The request that a line is. Any other line is refused as `BadMessage`, whether or not there is
-/// memory.
+/// The request of a line. Any other line is refused as `BadMessage`, whether or not memory is
+/// available.
 pub fn read_line(alloc: Global, line: &str) -> Result<Request, Refusal>
     ensures found { IfOk result (λ r. IsRequestInRange r × (line.now ≡ request_line r)) }
     ensures only { (r : Request) → IsRequestInRange r → line.now ≡ request_line r
@@ -116,7 +116,7 @@ pub fn read_line(alloc: Global, line: &str) -> Result<Request, Refusal>
 }
 
 /// The request of this name with these fields, each a word. Anything else is refused as
-/// `BadMessage`, whether or not there is memory.
+/// `BadMessage`, whether or not memory is available.
 pub fn read_request(alloc: Global, name: &str, fields: Words<'_>) -> Result<Request, Refusal>
     ensures found { IfOk result (λ r. IsRequestInRange r
         × (name.now ∷ words_left fields.entry ≡ request_words r)) }
@@ -142,7 +142,7 @@ fn find_request(alloc: Global, name: &str, fields: Words<'_>) -> Result<Request,
     }
 }
 
-// The device that is provisioned: DevEUI, JoinEUI, AppKey, RX1DROffset and RX1's delay.
+// The device to be provisioned: DevEUI, JoinEUI, AppKey, RX1DROffset and RX1's delay.
 fn provision(mut fields: Words<'_>) -> Option<Request>
     ensures found { IfSome result (λ r. IsRequestInRange r
         × (codes "provision" ∷ words_left fields.entry ≡ request_words r)) }
@@ -163,7 +163,7 @@ fn provision(mut fields: Words<'_>) -> Option<Request>
     }
 }
 
-// The request for a device. What its fields' types say of them is what makes it a request.
+// The request for a device. Since the fields are in range by their types, it is a request.
 fn provisioning(
     dev_eui: Eui,
     join_eui: Eui,
@@ -183,7 +183,7 @@ fn provisioning(
     }
 }
 
-// The item that is queued: DevEUI, tag, port, whether it is confirmed, and its payload.
+// The item to be queued: DevEUI, tag, port, whether it is confirmed, and its payload.
 fn queue(alloc: Global, mut fields: Words<'_>) -> Result<Request, Refusal>
     ensures { Finds (IsRequestOf (codes "queue" ∷ words_left fields.entry)) result }
 {
@@ -217,7 +217,7 @@ fn item_fields(fields: &mut Words<'_>) -> Option<(Eui, Tag, u8, bool)>
     Some((dev_eui, Tag(tag), port, confirmed.0))
 }
 
-// The MAC commands that are queued: DevEUI and the commands.
+// The MAC commands to be queued: DevEUI and the commands.
 fn mac(alloc: Global, mut fields: Words<'_>) -> Result<Request, Refusal>
     ensures { Finds (IsRequestOf (codes "mac" ∷ words_left fields.entry)) result }
 {

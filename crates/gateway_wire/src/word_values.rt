@@ -1,4 +1,4 @@
-// Values that are words of a line.
+// Values that are written as words of a line.
 ghost use Rattle.std.specs.Prelude.{◌≡◌, ◌≤◌, ◌∷◌, ◌⊎◌, ◌↔◌, ℕ, Err, List, Some, IfErr, IfOk};
 ghost use Rattle.std.specs.Prelude.{IfSome};
 ghost use Rattle.std.specs.Fmt.{decimal};
@@ -11,7 +11,7 @@ use devices::{AskedBytes, Ranged};
 use lw_types::{FromText, Refusal, Words, read_field};
 use std::alloc::Global;
 
-/// The value whose text the next word is; `None` for any other word, and where no word is left.
+/// The value of the next word; `None` if the word is the text of no value, or if no word is left.
 pub fn next_value<T: FromText>(words: &mut Words<'_>) -> Option<T>
     ensures value { IfSome result T.is_value }
     ensures found { IfSome result (λ x. words_left words.old ≡ T.text_of x ∷ words_left words.new) }
@@ -22,8 +22,8 @@ pub fn next_value<T: FromText>(words: &mut Words<'_>) -> Option<T>
     T::from_text(words.next()?)
 }
 
-/// The number of the range that the next word is the decimal of; `None` for any other word, and
-/// where no word is left.
+/// The number in the range whose decimal the next word is; `None` for any other word, or if no word
+/// is left.
 pub fn next_ranged<const LEAST: u64, const MOST: u64>(
     words: &mut Words<'_>,
 ) -> Option<Ranged<LEAST, MOST>>
@@ -54,8 +54,8 @@ impl FromText for Confirmed {
     }
 }
 
-/// The bytes whose text the last word is, `-` where there are none. Any other word is refused as
-/// `BadMessage`, as are no word and more than one, whether or not there is memory.
+/// The bytes of the last word, which is `-` if there are none. Any other word is refused as
+/// `BadMessage`, and so are no word and more than one, whether or not memory is available.
 pub(crate) fn last_bytes(alloc: Global, mut words: Words<'_>) -> Result<AskedBytes, Refusal>
     ensures { Finds (AreLast (words_left words.entry)) result }
 {
@@ -65,7 +65,7 @@ pub(crate) fn last_bytes(alloc: Global, mut words: Words<'_>) -> Result<AskedByt
     }
 }
 
-// The bytes whose text this is.
+// The bytes of this text.
 fn hex_bytes(alloc: Global, text: &str) -> Result<AskedBytes, Refusal>
     ensures found { IfOk result (λ bytes. IsBytes bytes × (text.now ≡ field_text bytes)) }
     ensures malformed { (result ≡ Err BadMessage) ↔ ¬ (IsFieldText text.now) }

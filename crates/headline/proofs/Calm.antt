@@ -1,4 +1,4 @@
--- Where all calls of a disk are to succeed, they do as long as no step arms a failure.
+-- If all calls of a disk are to succeed, they do as long as no step arms a failure.
 use Rattle.std.proofs.Common.{◌≡◌, List, [], ◌∷◌, ap, refl}
 use Rattle.lw_types.specs.declared.refusal.Refusal.TheVariants.{DeviceFailed}
 use Rattle.disk.specs.Outlook.Outlook.{AllSucceed}

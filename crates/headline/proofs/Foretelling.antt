@@ -1,4 +1,4 @@
--- What is foretold of calls is so for one who knows nothing of the coming ones, too.
+-- What is foretold of calls is also true for an observer who knows nothing of the coming ones.
 use Rattle.std.proofs.Common.{◌≡◌, ◌⊎◌, inl, inr, ℕ, List, [], ◌∷◌, ap, refl, subst, sym}
 use Rattle.lw_types.specs.declared.refusal.Refusal.TheVariants.{DeviceFailed}
 use Rattle.disk.specs.Outlook.{Outlook}
@@ -19,7 +19,7 @@ one_step calls (steps.Crash image) (answers.Refused DeviceFailed) h = tt
 one_step calls (steps.Crash image) answer h = tt
 one_step calls step answer h = h
 
--- the one knows what the other does, or nothing
+-- one observer knows what the other knows, or nothing
 abbrev KnowsLess : CallRecord → CallRecord → Type 0
 KnowsLess less more = (less ≡ more) ⊎ (less ≡ nothing_known more)
 
@@ -53,7 +53,7 @@ before_opening failed Unknown last calm = inr refl
 before_opening failed AllSucceed last calm = inl (sym (ap (λ coming. record { failed = failed; coming = outlook_after_opening coming }) (calm refl)))
 before_opening failed (FailsAfter n) last calm = inr refl
 
--- What is foretold behind calls of which none failed was foretold before them, as far as calls that
+-- What is foretold after calls of which none failed was foretold before them, as far as calls that
 -- all succeed leave the others to succeed.
 pub foretold_before : (failed now : ℕ) (first last : Outlook) (steps : List Step) (answers : List Answer) → now ≡ failed
     → (first ≡ AllSucceed → last ≡ AllSucceed)

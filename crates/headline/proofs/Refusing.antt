@@ -1,4 +1,4 @@
--- What is said of a refusal, where an answer hands it on.
+-- What is said of a refusal that an answer passes on.
 use Rattle.std.proofs.Common.{◌≡◌, ◌⊎◌, ◌≢◌, inl, inr, Result, Ok, Err, IfErr, subst, sym}
 use Rattle.std.specs.Result.{IsErrAnd}
 use Rattle.lw_types.specs.declared.refusal.Refusal.{Refusal}

@@ -13,17 +13,17 @@ use Rattle.world.specs.declared.answer.Answer.{Answer}
 use Rattle.world.specs.declared.step.Step.{Step}
 use Rattle.world.specs.declared.world.World.{World}
 
--- A disk crashed to this image, and the store was opened of what was left.
+-- A disk crashed to this image, and the store was opened from what was left.
 pub record IsOpenedOf (image : Image) (before : State) (store : StoreState) : Type 0 where
   pub left : List ℕ
   pub crashed : IsCrashed image before left
   pub permitted : IsPermitted before left
   pub opened : IsOpened left store
 
--- A world whose course began here made these steps, answered so. Its disk then crashed to this
--- image, and the store was opened of what was left. Whatever a crash could have left of that disk
--- holds what a beginning of the decided commands leads to, one that holds every command whose batch
--- was released.
+-- A world whose course began here made these steps, with these answers. Its disk then crashed to
+-- this image, and the store was opened from what was left. Each image that a crash could have left
+-- of that disk holds what the first n decided commands lead to, for some n, and every command whose
+-- batch was released is among these.
 pub record IsOpenedAfterCrash {D : Type 0} (laws : Ghosts D) (origin : Origin) (steps : List Step)
     (answers : List Answer) (image : Image) (store : StoreState) : Type 0 where
   pub first : World D laws

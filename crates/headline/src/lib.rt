@@ -1,4 +1,4 @@
-//! What may be concluded of whole runs, in the words of their lists of steps alone.
+//! What may be concluded about whole runs, in terms of their lists of steps alone.
 #![tactic(auto)]
 
 ghost use Rattle.std.specs.Prelude.{◌≡◌, ◌≢◌, ◌⊎◌, ◌++◌, ℕ, List, All, IfOk, IfErr, IsErrAnd, None};
@@ -36,19 +36,19 @@ use std::alloc::Global;
 use store::{Store, establish_back};
 use world::{Answer, Step, World, run};
 
-/// Takes the steps on a world with a new store on this disk, crashes among them, lets the disk
-/// crash to this image at the end, and opens the store. With [`Image::Bytes`] each image that the
-/// disk permits can be asked for. A refusal is `OutOfMemory`, `DeviceFailed`, or that of
-/// [`World::format`] for such slots or such a disk: what a crash leaves is never refused as no
-/// store. `DeviceFailed` never comes where all calls of the disk were to succeed and no step arms a
-/// failure.
+/// Takes the steps, which may include crashes, on a world with a new store on this disk. At the end
+/// makes the disk crash to this image, and opens the store. With [`Image::Bytes`] each image that
+/// the disk permits can be given. A refusal is `OutOfMemory`, `DeviceFailed`, or that of
+/// [`World::format`] for such slots or such a disk. So what a crash leaves is never refused because
+/// it holds no store. `DeviceFailed` is never returned if all calls of the disk were to succeed and
+/// no step arms a failure.
 ///
-/// Where it isn't refused, each answer is the right one, a failed call of the disk comes where it
-/// is due, the store was opened of this image of the disk that these steps left, of which every
-/// image would have done, and it has the table and the number that a beginning of the decided
-/// commands leaves. That beginning holds every command of which an effect has left. And over all
-/// lives no mark was used up twice by what has left: no JoinNonce of a device stands in two
-/// accepts. The table covers these marks, so that a world may adopt this store with them.
+/// If it isn't refused, each answer is right, and a failed call of the disk comes when it is due.
+/// The store was opened from this image of the disk that the steps left. It has the table and the
+/// number that the first n decided commands leave, for some n, and every command of which an effect
+/// has left is among these. Each image that a crash could have left of that disk holds such a table
+/// and number. Over all lives no mark was used up twice by what has left: no JoinNonce of a device
+/// stands in two accepts. The table covers these marks, so a world may adopt this store with them.
 pub fn crash_after<D: Sim + Drop>(
     alloc: Global,
     disk: D,
@@ -84,13 +84,13 @@ pub fn crash_after<D: Sim + Drop>(
     crash_from(alloc, world, steps, image)
 }
 
-/// The same of a world that begins with the store on this disk, in records of whatever version. A
+/// The same for a world that begins with the store on this disk, in records of any version. A
 /// refusal is `OutOfMemory`, `DeviceFailed`, or that of [`World::adopt`] for what the disk holds.
 ///
-/// Where it isn't refused, the disk held a table and a number, and each clause of [`crash_after`]
-/// is said of a course that begins with them. Of all marks that were used up before, where they are
-/// distinct and that table covers them, and of those of what has left since, none stands twice, and
-/// the table that is recovered covers them all. So one adoption may follow another.
+/// If it isn't refused, the disk held a table and a number, and each clause of [`crash_after`]
+/// holds for a course that begins with them. If the marks that were used up before are distinct and
+/// that table covers them, then no mark is twice among these and those of what has left since, and
+/// the recovered table covers them all. So one adoption may follow another.
 pub fn crash_after_adoption<D: Sim + Drop>(
     alloc: Global,
     disk: D,
@@ -139,24 +139,24 @@ pub fn crash_after_adoption<D: Sim + Drop>(
     }
 }
 
-/// The same of a network that lost its disk and goes on with an older copy of its store. The copy's
-/// table is restored: the sessions on record count as granted, and each device goes on as if N more
-/// of its JoinNonces had been used, where `since` is N. A store of that table and of the copy's
-/// number is made on this disk, and a world adopts it. A refusal is `OutOfMemory`, `DeviceFailed`,
-/// `JoinNonceSpent` if a device has fewer than N JoinNonces left, or `WrongSize` if the disk hasn't
-/// the length of such a store. `DeviceFailed` never comes if all calls of the disk were to succeed
-/// and no step arms a failure.
+/// The same for a network that lost its disk and continues with an older copy of its store. The
+/// copy's table is restored: the sessions on record count as granted, and each device continues as
+/// if N more of its JoinNonces had been used, where `since` is N. A store of that table and of the
+/// copy's number is made on this disk, and a world adopts it. A refusal is `OutOfMemory`,
+/// `DeviceFailed`, `JoinNonceSpent` if a device has fewer than N JoinNonces left, or `WrongSize` if
+/// the disk doesn't have the length of such a store. `DeviceFailed` is never returned if all calls
+/// of the disk were to succeed and no step arms a failure.
 ///
 /// If it isn't refused, the clauses `answers`, `calls`, `crash` and `recovers` of
-/// [`crash_after_adoption`] hold of a course that begins with the restored table and the copy's
+/// [`crash_after_adoption`] hold for a course that begins with the restored table and the copy's
 /// number.
 ///
-/// The marks that were used up before are those of devices that the copy has, and they are
-/// distinct. The JoinNonce of each one's session is at most N above the last one that the copy has
-/// for the device, or above one on record. Then no mark stands twice among these and those of what
-/// has left since, and the table that is recovered covers them all. So N counts JoinNonces, and not
-/// joins: an earlier restore used up its own N, too, unless it is on record from where it went on.
-/// Nothing is said of other devices.
+/// This is assumed of the marks that were used up before: they are those of devices that the copy
+/// has, and they are distinct. The JoinNonce of each one's session is at most N above the last one
+/// that the copy has for the device, or above one on record. Then no mark is twice among these and
+/// those of what has left since, and the recovered table covers them all. So N counts JoinNonces,
+/// and not joins: an earlier restore also used up its own N, unless the JoinNonce from which it
+/// continued is on record. Nothing is said of other devices.
 pub fn crash_after_restoring<D: Sim + Drop>(
     alloc: Global,
     older: Table,
@@ -209,7 +209,7 @@ pub fn crash_after_restoring<D: Sim + Drop>(
     }
 }
 
-// The same of a table and a number, of which a store is made on this disk.
+// The same for a table and a number, of which a store is made on this disk.
 fn crash_from_table<D: Sim + Drop>(
     alloc: Global,
     table: Table,
@@ -253,15 +253,16 @@ fn crash_from_table<D: Sim + Drop>(
     }
 }
 
-/// Ends a world: lets its disk crash to this image, and opens the store of what is left. With the
-/// store come the effects that were released over all lives, in order. A refusal is `OutOfMemory`
-/// or `DeviceFailed`, and then all is let go; `DeviceFailed` never comes where all calls of the
-/// disk were to succeed, and comes where the next one was to fail.
+/// Ends a world: makes its disk crash to this image, and opens the store from what is left. Returns
+/// the store, and the effects that were released over all lives, in order. A refusal is
+/// `OutOfMemory` or `DeviceFailed`, and then everything is dropped. `DeviceFailed` is never
+/// returned if all calls of the disk were to succeed, and always if the next one was to fail.
 ///
-/// Whatever course the world has followed, what came with the store is what has left in it, and the
-/// store has the table and the number that a beginning of its decided commands leaves, which holds
-/// every command whose batch was released. Where no mark was used up twice before, none was by what
-/// has left, and the table covers them all.
+/// For each course that the world has followed, the returned effects are those that have left in
+/// it. The store has the table and the number that the first n of its decided commands leave, for
+/// some n, and every command whose batch was released is among these. If the marks that were used
+/// up before are distinct, and the sound table with which the course began covers them, then no
+/// mark is twice among these and those of what has left, and the opened table covers them all.
 pub fn open_after<D: Sim + Drop>(
     alloc: Global,
     world: World<D>,
@@ -293,8 +294,8 @@ pub fn open_after<D: Sim + Drop>(
     Ok((released, store))
 }
 
-// Takes the steps on a world, lets its disk crash to this image at the end, and opens the store:
-// what is said of the course, for each place where it may have begun.
+// Takes the steps on a world, makes its disk crash to this image at the end, and opens the store.
+// The clauses hold for each place where the course may have begun.
 fn crash_from<D: Sim + Drop>(
     alloc: Global,
     mut world: World<D>,

@@ -1,5 +1,5 @@
-// Journals with changes, behind whole records as every entry was before changes came, in version 1.
-// The bytes were laid out by hand, from the format.
+// Journals of version 1 with changes, after whole records as every entry was before changes
+// existed. The bytes were laid out by hand, from the format.
 use devices::{Application, AskedBytes, Command, Queueing, Tag};
 use disk::{Image, MemDisk, Sim};
 use lw_types::{Eui, Refusal, read_hex};
@@ -49,10 +49,10 @@ const WHOLE_RECORDS: &[((u8, u8), &str)] = &[
     ),
 ];
 
-// Where the batch behind those begins.
+// Where the batch after those begins.
 const LAST_BATCH: usize = 62 + 70 + 142 + 70;
 
-// The bytes of these batches behind a checkpoint without records.
+// The bytes of these batches after a checkpoint without records.
 fn journal(alloc: Global, batches: &[((u8, u8), &str)]) -> Result<Vec<u8>, Refusal> {
     let mut bytes = OLD_FRONT.to_vec(alloc)?;
     for (numbers, entries) in batches {
@@ -61,8 +61,8 @@ fn journal(alloc: Global, batches: &[((u8, u8), &str)]) -> Result<Vec<u8>, Refus
     Ok(bytes)
 }
 
-// How many devices a store has, its number, and how many items and bytes of MAC commands wait for
-// the first device.
+// The number of devices of a store, its number, and the numbers of items and of bytes of MAC
+// commands that wait for the first device.
 type Found = (usize, u64, usize, usize);
 
 fn state_of(store: &Store<MemDisk>) -> Result<Found, Refusal> {
@@ -79,7 +79,7 @@ fn state_of(store: &Store<MemDisk>) -> Result<Found, Refusal> {
     }
 }
 
-// The state of the store with those batches, and one more of so many entries.
+// The state of the store with those batches, and one more of this number of entries.
 fn found(alloc: Global, count: u8, entries: &str) -> Result<Found, Refusal> {
     let mut bytes = journal(alloc, WHOLE_RECORDS)?;
     let last = count.saturating_add(4);
@@ -87,7 +87,7 @@ fn found(alloc: Global, count: u8, entries: &str) -> Result<Found, Refusal> {
     state_of(&open(alloc, disk_of(alloc, bytes)?)?)
 }
 
-// The first item leaves; one with the tag 9 comes; and it leaves.
+// The first item is removed; one with the tag 9 is added; and it is removed.
 const THREE_CHANGES: &str = concat!(
     "02000000024000",
     "020000000A400100000009070001AA",
@@ -95,21 +95,21 @@ const THREE_CHANGES: &str = concat!(
 );
 
 const BATCHES: &[(u8, &str, Result<Found, Refusal>)] = &[
-    // Nothing changes; the item leaves; the MAC command leaves; each changes what those before it
-    // in the batch leave.
+    // Nothing changes; the item is removed; the MAC command is removed; each changes what those
+    // before it in the batch leave.
     (1, "020000000100", Ok((2, 5, 1, 1))),
     (1, "02000000024000", Ok((2, 5, 0, 1))),
     (1, "02000000022000", Ok((2, 5, 1, 0))),
     (3, THREE_CHANGES, Ok((2, 7, 0, 1))),
-    // Nothing is left that could leave, within the batch and of another slot's record.
+    // Nothing is left that could be removed, within the batch and in another slot's record.
     (2, "0200000002400002000000024000", Err(Refusal::Damaged)),
     (1, "02000100024000", Err(Refusal::Damaged)),
     // Slots without a record: the next one, and beyond the table.
     (1, "020002000100", Err(Refusal::Damaged)),
     (1, "020008000100", Err(Refusal::Damaged)),
     (1, "02FFFF000100", Err(Refusal::Damaged)),
-    // The MAC command that waits already; no mask; a byte too many, and too few; a bit that means
-    // nothing; and another kind.
+    // The MAC command that already waits; no mask; a byte too many, and one too few; a bit that
+    // means nothing; and another kind.
     (1, "0200000003200106", Err(Refusal::Damaged)),
     (1, "0200000000", Err(Refusal::Damaged)),
     (1, "02000000020000", Err(Refusal::Damaged)),
@@ -127,7 +127,8 @@ fn changes_are_of_the_record_that_the_slot_has_then(rt: HostRuntime) {
     }
 }
 
-// What comes of a checkpoint of the device that says so many records, with a change behind it.
+// What results from a checkpoint of the device that gives this number of records, with a change
+// after it.
 fn checkpointed(alloc: Global, count: u8, change: &str) -> Result<Found, Refusal> {
     let mut records = read_hex(alloc, PROVISIONED_2)?;
     let change = read_hex(alloc, change)?;
@@ -185,7 +186,7 @@ fn add_changes(alloc: Global, table: &mut Table, batch: &mut Batch) -> Result<()
     add(alloc, table, 2, batch, heard(alloc, JOIN)?)
 }
 
-// The entries of the item and, but for its session's keys, of the join.
+// The entries of the item and, except its session's keys, of the join.
 const QUEUED: &str = "020000000A400100000009070001AA";
 
 const JOINED: &str = "020000002B0901000100000102000001";
@@ -203,7 +204,7 @@ fn a_decision_that_found_a_record_is_a_change(rt: HostRuntime) {
     assert!(rt; have_their_layout(rt.alloc()) == Ok(true));
 }
 
-// A batch of an item, behind what the store has.
+// A batch of an item, after what the store has.
 fn batch_of(alloc: Global, store: &Store<MemDisk>, tag: u32) -> Result<Batch, Refusal> {
     let command = queueing(alloc, tag)?;
     let mut table = store.table().copy()?;
@@ -219,7 +220,7 @@ fn commit(alloc: Global, store: &mut Store<MemDisk>, tag: u32) -> Result<(), Ref
     begin_commit(alloc, store, batch, ALL)
 }
 
-// Commits an item, and answers what a crash leaves.
+// Commits an item, and returns what a crash leaves.
 fn queued(alloc: Global, mut store: Store<MemDisk>, tag: u32) -> Result<Store<MemDisk>, Refusal> {
     let committed = commit(alloc, &mut store, tag);
     let mut disk = store.close();
@@ -228,7 +229,7 @@ fn queued(alloc: Global, mut store: Store<MemDisk>, tag: u32) -> Result<Store<Me
     open(alloc, disk)
 }
 
-// What a store of whole records has, and then with two items more, each committed alone.
+// What a store of whole records has, and what it has after two more items, each committed alone.
 fn goes_on(alloc: Global) -> Result<(Found, Found), Refusal> {
     let store = open(alloc, disk_of(alloc, journal(alloc, WHOLE_RECORDS)?)?)?;
     let before = state_of(&store);
@@ -242,8 +243,8 @@ fn a_store_of_whole_records_goes_on_with_changes(rt: HostRuntime) {
     assert!(rt; goes_on(rt.alloc()) == Ok(((2, 4, 1, 1), (2, 6, 3, 1))));
 }
 
-// The first byte of the last batch that is answered in another way than by a store or by a refusal
-// of its bytes, where this byte stands in its place.
+// The first byte of the last batch for which an opening gives something other than a store or a
+// refusal of its bytes if this byte stands in its place.
 fn first_other(
     alloc: Global,
     disk: &mut MemDisk,
@@ -256,7 +257,7 @@ fn first_other(
             Ok(_) | Err(Refusal::Damaged) => put(disk, place, &[*was])?,
             Err(_) => return Ok(Some(place)),
         }
-        // Where the store was taken over, that is undone.
+        // If the store was taken over, that is undone.
         put(disk, GATE_B, &[0])?;
     }
     Ok(None)

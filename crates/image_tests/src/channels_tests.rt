@@ -10,8 +10,8 @@ use test_stores::devices_under_test::{add, heard_on};
 use test_stores::images_under_test::{OLD_FRONT, add_batch_of, disk_of};
 use test_stores::stores_under_test::{ALL, begin_commit};
 
-// The entry of the device that joins, behind its first join and the uplink 0 of its session. The
-// byte in front of that is 01.
+// The entry of the device that joins, after its first join and the uplink 0 of its session. The
+// byte before that is 01.
 const IN_USE: &str = concat!(
     "0100000061",
     "111213141516171801020304050607082B7E151628AED2A6ABF7158809CF4F3C",
@@ -58,10 +58,10 @@ fn serve(
     begin_commit(alloc, store, batch, ALL)
 }
 
-// A frame, its channel, its refusal, and the channels of the sessions behind it.
+// A frame, its channel, its refusal, and the channels of the sessions after it.
 type Step = (&'static str, u32, Option<Refusal>, Given);
 
-// The store behind a step and a crash, if both are as they have to be.
+// The store after a step and a crash, if both are as they have to be.
 fn after(alloc: Global, mut store: Store<MemDisk>, step: &Step) -> Result<Store<MemDisk>, Refusal> {
     let (digits, frequency, refusal, wanted) = *step;
     let served = serve(alloc, &mut store, digits, frequency);

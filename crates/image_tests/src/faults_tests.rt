@@ -9,13 +9,13 @@ use test_stores::stores_under_test::{
 // The batch of the live area.
 const BATCH: usize = SECOND_AREA + 93;
 
-// Another byte of the image, and, with the last one of a fault, what an opening is refused for it.
+// Another byte of the image, and, with the last one of a fault, the refusal of an opening for it.
 type Change = (usize, u8, Option<Refusal>);
 
 // The faults in the order in which they count.
 const FAULTS: &[Change] = &[
     // The superblock's gate, name, version, NetID, slots, area and zeros; and the length of the
-    // disk that it says.
+    // disk that it gives.
     (0, 0x5A, Some(Refusal::NotFormatted)),
     (7, 0x46, Some(Refusal::NotFormatted)),
     (8, 2, Some(Refusal::WrongVersion)),
@@ -33,8 +33,8 @@ const FAULTS: &[Change] = &[
     (GATE_A, 0, None),
     (GATE_B, 0, Some(Refusal::Damaged)),
     (LOW_A, 2, Some(Refusal::Damaged)),
-    // The live one's version, generation, records, their number, and the first one's kind, slot and
-    // length.
+    // The live one's version, generation, length of the records, their number, and the first one's
+    // kind, slot and length.
     (VERSION_B, 3, Some(Refusal::WrongVersion)),
     (HIGH_B, 0x80, Some(Refusal::Damaged)),
     (LEN_B, 0, None),
@@ -52,10 +52,10 @@ const FAULTS: &[Change] = &[
     (BATCH + 27, 1, Some(Refusal::Damaged)),
 ];
 
-// How many faults they are.
+// The number of these faults.
 const COUNT: usize = 22;
 
-// Makes the fault of a number, and what it is refused.
+// Makes the fault of this number, and returns the refusal for it.
 fn make(disk: &mut MemDisk, number: usize) -> Result<Option<Refusal>, Refusal> {
     let mut at: usize = 0;
     for (place, byte, refusal) in FAULTS {
@@ -71,7 +71,7 @@ fn make(disk: &mut MemDisk, number: usize) -> Result<Option<Refusal>, Refusal> {
     Err(Refusal::Malformed)
 }
 
-// Takes back what was changed in the 300 bytes from a place on.
+// Undoes what was changed in the 300 bytes from a place on.
 fn restore(disk: &mut MemDisk, image: &[u8], from: usize) -> Result<(), Refusal> {
     let Some(was) = image.get(from..from.saturating_add(300)) else {
         return Err(Refusal::CutShort);
@@ -102,7 +102,7 @@ fn counts(
     Ok(wanted.is_some() && answer.err() == wanted)
 }
 
-// Whether a fault counts alone and before each of those behind it, and a sync that fails before it.
+// Whether a fault counts alone and before each of those after it, and a sync that fails before it.
 fn is_in_order(
     alloc: Global,
     disk: &mut MemDisk,
@@ -116,7 +116,7 @@ fn is_in_order(
     Ok(is_in_order)
 }
 
-// The first fault that isn't in order, and how many there are.
+// The first fault that isn't in order, and the number of faults.
 fn first_other(alloc: Global, disk: &mut MemDisk, image: &[u8]) -> Result<Option<usize>, Refusal> {
     for first in 0..COUNT {
         if !is_in_order(alloc, disk, image, first)? {
@@ -126,8 +126,8 @@ fn first_other(alloc: Global, disk: &mut MemDisk, image: &[u8]) -> Result<Option
     Ok(None)
 }
 
-// What an image answers that has an area of generation 1, and one of generation 2 with a checkpoint
-// of one device and a batch that brings another; and its first fault out of order.
+// What an opening returns for an image that has an area of generation 1, and one of generation 2
+// with a checkpoint of one device and a batch that adds another; and its first fault out of order.
 type Order = ((usize, u64), Option<usize>);
 
 fn order(alloc: Global) -> Result<Order, Refusal> {

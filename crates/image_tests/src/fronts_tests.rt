@@ -1,4 +1,4 @@
-// Each of the first 200 bytes of a disk, changed: what an opening answers, by docs/FORMATS.md.
+// Each of the first 200 bytes of a disk, changed: what an opening returns, by docs/FORMATS.md.
 use disk::MemDisk;
 use lw_types::Refusal;
 use std::alloc::Global;
@@ -7,14 +7,14 @@ use test_stores::stores_under_test::{opened, put, store_after};
 // What a byte is changed to.
 const VALUES: [u8; 4] = [0x00, 0x5A, 0xA5, 0xFF];
 
-// The answers for each of them: the number of the refusal, or 0 where the store's device is there,
-// and 1 where an empty store is.
+// The results for each of them: the number of the refusal, 0 for the store's device, or 1 for an
+// empty store.
 type Answers = [u8; 4];
 
-// Behind which place of a disk with one device in one area other answers are due. A byte that has
-// the value already is there in each range that has a 0 for it.
+// After which place of a disk with one device in one area other results are due. A byte that has
+// the value already is in each range that has a 0 for it.
 const ONE_AREA: &[(usize, Answers)] = &[
-    // The gate, the name and the version; the NetID, of which 000000 is one too.
+    // The gate, the name and the version; the NetID, for which 000000 is also valid.
     (1, [43, 43, 0, 43]),
     (8, [43, 43, 43, 43]),
     (9, [45, 45, 45, 45]),
@@ -25,7 +25,7 @@ const ONE_AREA: &[(usize, Answers)] = &[
     (21, [0, 44, 44, 44]),
     (24, [44, 44, 44, 44]),
     (32, [0, 44, 44, 44]),
-    // The first area's gate, version, generation, and that it has no records.
+    // The first area's gate, version and generation, and that it has no records.
     (33, [44, 44, 0, 44]),
     (34, [45, 45, 45, 45]),
     (35, [0, 0, 44, 44]),
@@ -47,19 +47,19 @@ const ONE_AREA: &[(usize, Answers)] = &[
     (114, [0, 0, 0, 0]),
     (116, [0, 44, 44, 44]),
     (117, [44, 44, 44, 44]),
-    // No DevNonce; what was granted; no session, no tag, empty queues; and how many uplinks were
-    // counted, below 2^63.
+    // No DevNonce; what was granted; no session, no tag, empty queues; and the number of uplinks
+    // that were counted, below 2^63.
     (120, [0, 44, 44, 44]),
     (123, [0, 0, 0, 0]),
     (132, [0, 44, 44, 44]),
     (133, [0, 0, 44, 44]),
     (140, [0, 0, 0, 0]),
-    // The gate behind the batch, and what doesn't count.
+    // The gate after the batch, and what doesn't count.
     (141, [0, 0, 44, 0]),
     (200, [0, 0, 0, 0]),
 ];
 
-// The same where the second area is live, of generation 2, and the first one has the same table.
+// The same if the second area is live, of generation 2, and the first one has the same table.
 const TWO_AREAS: &[(usize, Answers)] = &[
     (1, [43, 43, 0, 43]),
     (8, [43, 43, 43, 43]),
@@ -69,13 +69,13 @@ const TWO_AREAS: &[(usize, Answers)] = &[
     (21, [0, 44, 44, 44]),
     (24, [44, 44, 44, 44]),
     (32, [0, 44, 44, 44]),
-    // A generation of 2^63 or above is greater, and none.
+    // A generation of 2^63 or above is greater, and not allowed.
     (34, [0, 0, 0, 0]),
     (35, [0, 0, 44, 44]),
     (200, [0, 0, 0, 0]),
 ];
 
-// What is answered where a byte is changed. Leaves the disk as it was.
+// What an opening returns if a byte is changed. Leaves the disk as it was.
 fn answer(alloc: Global, disk: &mut MemDisk, place: usize, byte: u8) -> Result<u8, Refusal> {
     let Some(was) = disk.content().get(place).copied() else {
         return Err(Refusal::CutShort);
@@ -91,7 +91,7 @@ fn answer(alloc: Global, disk: &mut MemDisk, place: usize, byte: u8) -> Result<u
     Ok(answer)
 }
 
-// Whether all values at a place are answered so.
+// Whether all values at a place give these results.
 fn is_answered(
     alloc: Global,
     disk: &mut MemDisk,
@@ -105,7 +105,7 @@ fn is_answered(
     Ok(is_answered)
 }
 
-// The first place whose answers are others, of the disk of a store after these steps.
+// The first place with other results, on the disk of a store after these steps.
 fn first_other(
     alloc: Global,
     steps: &str,

@@ -15,8 +15,8 @@ fn image(alloc: Global) -> Result<Vec<u8>, Refusal> {
     Ok(disk.content().to_vec(alloc)?)
 }
 
-// The length of a disk, of whose bytes those from one place to another are this byte; the call of
-// its opening that fails, if any; and the answer.
+// The length of a disk, on which the bytes from one place to another are this byte; the call of its
+// opening that fails, if any; and the result.
 type Spoiled = (
     usize,
     (usize, usize),
@@ -36,7 +36,7 @@ fn spoiled(alloc: Global, len: usize, place: (usize, usize), byte: u8) -> Result
     Ok(MemDisk::new(alloc, bytes)?)
 }
 
-// Whether the opening of such a disk has its answer, and the disk comes back as it was.
+// Whether the opening of such a disk has its result, and the disk is returned as it was.
 fn answers_so(alloc: Global, row: &Spoiled) -> Result<bool, Refusal> {
     let (len, place, byte, failing, wanted) = *row;
     let mut disk = spoiled(alloc, len, place, byte)?;
@@ -57,10 +57,10 @@ const SPOILED: &[Spoiled] = &[
     (LEN, (0, 1), 0x00, 0, Err(Refusal::NotFormatted)),
     (LEN, (8, 9), 0x02, 0, Err(Refusal::WrongVersion)),
     (LEN, (9, 10), 0x01, 0, Err(Refusal::Damaged)),
-    // Its fields count before the length, and the areas behind it.
+    // Its fields count before the length, and the areas after it.
     (LEN - 1, (9, 10), 0x01, 0, Err(Refusal::Damaged)),
     (LEN - 1, (32, 33), 0x00, 0, Err(Refusal::WrongSize)),
-    // Nothing is spoiled.
+    // Nothing is damaged.
     (LEN, (0, 0), 0, 0, Ok((1, 1))),
     // The area's gate, version and generation.
     (LEN, (32, 33), 0x00, 0, Err(Refusal::Damaged)),
@@ -72,19 +72,19 @@ const SPOILED: &[Spoiled] = &[
     (LEN, (34, 35), 0x80, 0, Err(Refusal::Damaged)),
     // The length of the records.
     (LEN, (54, 55), 0x01, 0, Err(Refusal::Damaged)),
-    // The batch's gate, behind which nothing counts, its length, last sequence number and number of
+    // The batch's gate, after which nothing counts, its length, last sequence number and number of
     // entries.
     (LEN, (62, 63), 0x00, 0, Ok((0, 0))),
     (LEN, (63, 67), 0xFF, 0, Err(Refusal::Damaged)),
     (LEN, (74, 75), 0x02, 0, Err(Refusal::Damaged)),
     (LEN, (76, 77), 0x00, 0, Err(Refusal::Damaged)),
-    // A call fails, or there is no failing one any more.
+    // A call fails, or no failing one exists any more.
     (LEN, (0, 1), 0xA5, 1, Err(Refusal::DeviceFailed)),
     (LEN, (0, 1), 0xA5, 2, Err(Refusal::DeviceFailed)),
     (LEN, (0, 1), 0x00, 9, Err(Refusal::NotFormatted)),
 ];
 
-// With a refusal the disk comes back, too.
+// With a refusal the disk is returned, too.
 #[test]
 fn a_disk_is_opened_or_comes_back(rt: HostRuntime) {
     for row in SPOILED {
@@ -92,7 +92,7 @@ fn a_disk_is_opened_or_comes_back(rt: HostRuntime) {
     }
 }
 
-// A slot, the DevEUI of the device there, and whether that has a full queue.
+// A slot, the DevEUI of its device, and whether that device has a full queue.
 type Entry = (u16, u64, bool);
 
 fn device_of(alloc: Global, entry: &Entry) -> Result<Device, Refusal> {
@@ -104,7 +104,7 @@ fn device_of(alloc: Global, entry: &Entry) -> Result<Device, Refusal> {
     }
 }
 
-// Adds these entries.
+// Appends these entries.
 fn add_entries(alloc: Global, bytes: &mut Vec<u8>, entries: &[Entry]) -> Result<(), Refusal> {
     for entry in entries {
         let device = device_of(alloc, entry)?;
@@ -128,12 +128,12 @@ fn are_devices(alloc: Global, devices: &[Device], entries: &[Entry]) -> Result<b
     Ok(are_same)
 }
 
-// An image whose checkpoint at number 7 has these records, and says that they are so many.
+// An image whose checkpoint at number 7 has these records, and gives this number of them.
 fn checkpoint(alloc: Global, count: u8, entries: &[Entry]) -> Result<Vec<u8>, Refusal> {
     checkpoint_of(alloc, count, &entries_of(alloc, entries)?)
 }
 
-// Adds a batch of these entries behind its open gate.
+// Appends a batch of these entries after its open gate.
 fn add_batch(
     alloc: Global,
     bytes: &mut Vec<u8>,
@@ -198,19 +198,19 @@ fn records_are_put_at_slots_in_use(rt: HostRuntime) {
     assert!(rt; are_replaced(rt.alloc()) == Ok(true));
 }
 
-// The refusal of a checkpoint that says so many records, and has these.
+// The refusal of a checkpoint that gives this number of records, and has these.
 fn refused(alloc: Global, count: u8, entries: &[Entry]) -> Result<Option<Refusal>, Refusal> {
     let disk = disk_of(alloc, checkpoint(alloc, count, entries)?)?;
     Ok(open(alloc, disk).err())
 }
 
-// Records that may not stand, and the number that the header says.
+// Records that aren't allowed, and the number that the header gives.
 const RECORDS: &[(u8, &[Entry])] = &[
-    // A DevEUI in two slots, a slot passed over, one more record than slots.
+    // A DevEUI in two slots, a skipped slot, one more record than slots.
     (2, &[(0, 1, false), (1, 1, false)]),
     (2, &[(0, 1, false), (2, 2, false)]),
     (2, &[(0, 1, false), (8, 9, false)]),
-    // A slot twice, of another device or of the same one, and behind others.
+    // A slot twice, of another device or of the same one, and after others.
     (2, &[(0, 1, false), (0, 2, false)]),
     (2, &[(0, 1, false), (0, 1, false)]),
     (3, &[(0, 1, false), (1, 2, false), (0, 3, false)]),

@@ -1,5 +1,5 @@
-//! Tests of the public calls of the store over images that were laid out by hand, by older programs
-//! too, or spoiled. They stand above it, so that it is proved once.
+//! Tests of the public calls of the store over images that were laid out by hand (also those of
+//! older programs) or damaged. This crate stands above it, so that it is proved once.
 #![tactic(auto)]
 
 #[cfg(test)]

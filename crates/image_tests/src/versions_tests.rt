@@ -16,20 +16,20 @@ const NEW_DEVICE: &str = concat!(
     "030001000000000000000000000000000000",
 );
 
-// The areas behind two checkpoints of that device: gate, version, generation, number, number of
+// The areas after two checkpoints of that device: gate, version, generation, number, number of
 // records and their length.
 const THIRD: &str = "A501000000000000000300000000000000010000000100000000000000";
 
 const SECOND: &str = "A501000000000000000200000000000000010000000100000000000000";
 
-// Which disk: one of a new store and a batch, or one behind two checkpoints.
+// Which disk: one of a new store and a batch, or one after two checkpoints.
 #[derive(Clone, Copy)]
 enum Old {
     Batch,
     Checkpoints,
 }
 
-// An area of that device alone.
+// An area with only that device.
 fn area(alloc: Global, front: &str) -> Result<Vec<u8>, Refusal> {
     let mut bytes = read_hex(alloc, front)?;
     bytes.push(55)?;
@@ -37,7 +37,7 @@ fn area(alloc: Global, front: &str) -> Result<Vec<u8>, Refusal> {
     Ok(bytes)
 }
 
-// The bytes in front of the first area's last gate.
+// The bytes before the first area's last gate.
 fn first_front(alloc: Global, old: Old) -> Result<Vec<u8>, Refusal> {
     let mut bytes = OLD_FRONT.to_vec(alloc)?;
     match old {
@@ -50,7 +50,7 @@ fn first_front(alloc: Global, old: Old) -> Result<Vec<u8>, Refusal> {
     Ok(bytes)
 }
 
-// The first bytes of the second area, all that an opening may change.
+// The first bytes of the second area, which are all that an opening may change.
 fn second_front(alloc: Global, old: Old) -> Result<Vec<u8>, Refusal> {
     let mut bytes = match old {
         Old::Batch => Vec::new(alloc),
@@ -67,14 +67,14 @@ fn old_disk(alloc: Global, old: Old) -> Result<MemDisk, Refusal> {
     Ok(disk)
 }
 
-// Takes back what an opening changed.
+// Undoes what an opening changed.
 fn restore(disk: &mut MemDisk, second: &[u8]) -> Result<(), Refusal> {
     put(disk, SECOND_AREA, second)?;
     disk.crash(&Image::New);
     Ok(())
 }
 
-// Opens the disk, whose nth call fails and none behind it, and answers whether that succeeded.
+// Opens the disk, of which only the nth call fails, and returns whether that succeeded.
 fn open_till(alloc: Global, disk: &mut MemDisk, nth: u64) -> Result<bool, Refusal> {
     if nth == 0 {
         return Err(Refusal::OutOfStep);
@@ -89,10 +89,10 @@ fn open_till(alloc: Global, disk: &mut MemDisk, nth: u64) -> Result<bool, Refusa
     }
 }
 
-// A byte that stands nowhere on these disks.
+// A byte that doesn't occur on these disks.
 const TORN: u8 = 0xDD;
 
-// The first position that is open, how many are, and the second area's gate.
+// The first position that is open, the number of open ones, and the second area's gate.
 type Open = (Option<usize>, usize, u8);
 
 fn open_positions(disk: &mut MemDisk) -> Open {
@@ -103,8 +103,8 @@ fn open_positions(disk: &mut MemDisk) -> Open {
     (first, count, gate)
 }
 
-// What is open where one of the last calls fails, from the last one back: 93 bytes are written
-// behind the second area's gate, and then that; each is synced.
+// What is open if one of the last calls fails, from the last one back: 93 bytes are written after
+// the second area's gate, and then that gate; each is synced.
 const OF_BATCH: &[Open] = &[
     (Some(1_083_078), 1, 0xA5),
     (Some(1_083_078), 1, 0),
@@ -113,7 +113,7 @@ const OF_BATCH: &[Open] = &[
     (None, 0, 0),
 ];
 
-// Before that the gate is closed where it is open.
+// Before that the gate is closed if it is open.
 const OF_CHECKPOINTS: &[Open] = &[
     (Some(1_083_078), 1, 0xA5),
     (Some(1_083_078), 1, 0),
@@ -124,7 +124,7 @@ const OF_CHECKPOINTS: &[Open] = &[
     (None, 0, 0xA5),
 ];
 
-// The number of the first call that an opening doesn't make any more.
+// The number of the first call that an opening no longer makes.
 fn calls_of(alloc: Global, disk: &mut MemDisk, second: &[u8]) -> Result<u64, Refusal> {
     for nth in 1..100 {
         let is_done = open_till(alloc, disk, nth)?;
@@ -136,8 +136,8 @@ fn calls_of(alloc: Global, disk: &mut MemDisk, second: &[u8]) -> Result<u64, Ref
     Err(Refusal::OutOfStep)
 }
 
-// Whether that is open where the last calls of an opening fail. A failed write opens its positions
-// and leaves the bytes.
+// Whether that is open if the last calls of an opening fail. A failed write opens its positions and
+// leaves the bytes.
 fn are_open(
     alloc: Global,
     disk: &mut MemDisk,
@@ -166,8 +166,8 @@ fn taking_over_writes_what_the_layout_says(rt: HostRuntime) {
     assert!(rt; opens(rt.alloc(), Old::Checkpoints, OF_CHECKPOINTS) == Ok(true));
 }
 
-// Whether the device and its number are found again where any call of an opening fails, and where
-// none does, behind a crash to an image or without one.
+// Whether the device and its number are found again if any call of an opening fails, and if none
+// does, after a crash to an image or without one.
 fn is_kept(
     alloc: Global,
     disk: &mut MemDisk,
@@ -193,7 +193,7 @@ fn survives(alloc: Global, old: Old, image: Option<&Image>) -> Result<bool, Refu
     is_kept(alloc, &mut old_disk(alloc, old)?, &second, image)
 }
 
-// Without a crash, and behind one to the old bytes, to the new ones and to open gates.
+// Without a crash, and after one to the old bytes, to the new ones and to open gates.
 fn survives_all(alloc: Global, old: Old) -> bool {
     survives(alloc, old, None) == Ok(true)
         && survives(alloc, old, Some(&Image::Old)) == Ok(true)
@@ -207,7 +207,7 @@ fn a_call_that_fails_in_taking_over_changes_nothing(rt: HostRuntime) {
     assert!(rt; survives_all(rt.alloc(), Old::Checkpoints));
 }
 
-// What the second area has in front when the store was taken over: its gate, version 2, the next
+// The beginning of the second area after the store was taken over: its gate, version 2, the next
 // generation, the number, and one record of 58 bytes, the last eight of which count uplinks.
 const TAKEN_OVER: &str = concat!(
     "A5020000000000000002000000000000000100000001000000000000003F",
@@ -217,7 +217,7 @@ const TAKEN_OVER: &str = concat!(
     "00",
 );
 
-// An opening that memory was refused changes nothing, so that the next one goes well.
+// An opening for which memory ran out changes nothing, so the next one succeeds.
 fn open_at_last(alloc: Global, disk: &mut MemDisk) -> Result<(usize, u64), Refusal> {
     match opened(alloc, disk) {
         Err(Refusal::OutOfMemory) => opened(alloc, disk),
@@ -246,7 +246,7 @@ fn the_table_is_published_in_version_2_and_the_old_area_stays(rt: HostRuntime) {
 }
 
 // The first area's version and generation, and the last byte of the other area's generation, which
-// is 0 where nothing is taken over.
+// is 0 if nothing is taken over.
 const GENERATIONS: &[(u8, [u8; 8], Result<u8, Refusal>)] = &[
     (
         1,
@@ -297,7 +297,7 @@ const IN_USE: &str = concat!(
     "0000000500000000000000030000000000000000",
 );
 
-// The counter of the downlink that a frame brings.
+// The counter of the downlink that a frame causes.
 fn downlink_of(alloc: Global, digits: &str) -> Result<u32, Refusal> {
     let mut bytes = OLD_FRONT.to_vec(alloc)?;
     add_batch_of(&mut bytes, (1, 1), &read_hex(alloc, IN_USE)?)?;

@@ -15,15 +15,15 @@ use Rattle.join_server.specs.declared.state.JoinState.{JoinState}
 use Rattle.join_server.specs.declared.ask.JoinAsk.{JoinAsk}
 use Rattle.join_server.specs.declared.grant.JoinGrant.{JoinGrant}
 
--- the first DevNonce of a device may be any, and later ones are above the last
+-- the first DevNonce of a device may be any; each later one is above the last
 abbrev pub is_later : Option ℕ → ℕ → Bool
 is_later last dev_nonce = option_map_or (λ (l : ℕ). nat_lt l dev_nonce) last true
 
--- the JoinNonce that is granted next: 1 first, and then one above the last
+-- the JoinNonce that is granted next: first 1, then one above the last
 abbrev pub next_join_nonce : Option ℕ → ℕ
 next_join_nonce last = unwrap_or last 0 + 1
 
--- whether a join is granted, and if not, the first reason
+-- whether a join is granted; if not, the first reason against it
 abbrev pub admission : JoinState → List ℕ → Result (Unit {0}) Refusal
 admission s request =
     if not (join_eui_of request == s.join_eui.0) then Err WrongJoinEui
@@ -42,7 +42,7 @@ accept_fields join_nonce ask =
     ++ (to_le_bytes w32 ask.dev_addr.0
     ++ (ask.dl_settings ∷ ask.rx_delay ∷ (cf_list ++ replicate 4 0)))))
 
--- what a device is granted: the keys of the next JoinNonce and this DevNonce (§6.2.6), and the
+-- what a device is granted: the keys for the next JoinNonce and this DevNonce (§6.2.6), and the
 -- sealed accept
 abbrev pub grant_of : JoinState → JoinAsk → JoinGrant
 grant_of s ask =
@@ -56,8 +56,7 @@ grant_of s ask =
       accept = sealed_accept s.app_key.0 (accept_fields join_nonce ask);
     }
 
--- the device's state after a join that was granted: both nonces are used, and nothing else has
--- changed
+-- the device's state after a granted join: both nonces are used, and nothing else has changed
 abbrev pub state_after_join : JoinState → JoinAsk → JoinState
 state_after_join s ask =
     record s {

@@ -2,7 +2,7 @@
 use Rattle.std.specs.Prelude.{◌≡◌, ℕ, List, [], ◌∷◌, length, take, drop}
 use Rattle.std.specs.Int.{w16, w64, from_le_bytes}
 
--- the bytes of a Join-Request: 23, of which the MHDR is 0 (§4.2, §6.2.5)
+-- the bytes of a Join-Request: 23 bytes with an MHDR of 0 (§4.2, §6.2.5)
 abbrev pub IsRequest : List ℕ → Type 0
 IsRequest bytes = (length bytes ≡ 23) × (take 1 bytes ≡ 0 ∷ [])
 
@@ -16,7 +16,7 @@ dev_eui_of request = from_le_bytes w64 (take 8 (drop 9 request))
 abbrev pub dev_nonce_of : List ℕ → ℕ
 dev_nonce_of request = from_le_bytes w16 (take 2 (drop 17 request))
 
--- all before the MIC, and the MIC
+-- the bytes before the MIC, and the MIC
 abbrev pub mic_input : List ℕ → List ℕ
 mic_input request = take 19 request
 

@@ -2,7 +2,7 @@
 use crate::JoinRequestBytes;
 use lw_types::{DevAddr, NetId, RxDelay};
 
-/// A device's Join-Request, and what its session is to have if it is granted.
+/// A device's Join-Request, and the parameters of its session if it is granted.
 #[derive(Clone, Copy, PartialEq, Eq)]
 pub struct JoinAsk {
     pub net_id: NetId,
@@ -11,6 +11,6 @@ pub struct JoinAsk {
     pub dl_settings: u8,
     pub rx_delay: RxDelay,
     pub request: JoinRequestBytes,
-    /// The number by which the answer names the question.
+    /// The number that connects the answer with the question.
     pub transaction: u32,
 }

@@ -1,4 +1,4 @@
-//! Laws of joins. The function does nothing: its contract is the law.
+//! The law of joins. It is the contract of a function that does nothing.
 ghost use Rattle.std.specs.Prelude.{◌≡◌, ◌<◌, ◌^◌};
 ghost use Rattle.aes128.specs.Cipher.{IsBlock};
 ghost use Rattle.frame_crypt.specs.Joins.{opened_accept, with_mic};
@@ -6,8 +6,8 @@ ghost use Rattle.join_server.specs.declared.ask.JoinAsk.{JoinAsk};
 ghost use Rattle.join_server.specs.declared.state.JoinState.{JoinState};
 ghost use Rattle.join_server.specs.Join.{accept_fields, grant_of};
 
-/// The device opens the accept that it is granted, by the encryption under its AppKey, to the
-/// fields of the grant and their MIC (TS001-1.0.4 §6.2.6).
+/// The device opens a granted accept by encrypting it under its AppKey. It finds the fields of the
+/// grant and their MIC (TS001-1.0.4 §6.2.6).
 pub fn the_device_opens_its_accept()
     ensures { (state : JoinState) (ask : JoinAsk) → IsBlock state.app_key.0
         → ask.dl_settings < 2 ^ 8 → ask.rx_delay < 2 ^ 8

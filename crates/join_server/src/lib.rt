@@ -1,4 +1,4 @@
-//! The join server of a network: it grants a device a session, or refuses it (TS001-1.0.4 §6.2). No
+//! The join server of a network: it grants a device a session or refuses it (TS001-1.0.4 §6.2). No
 //! call takes memory.
 #![tactic(auto)]
 

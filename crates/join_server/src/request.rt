@@ -9,7 +9,7 @@ use frame_crypt::join_mic;
 use lw_types::{Eui, FromText, HexArray, Key};
 use std::marker::Model;
 
-/// The 23 bytes of a Join-Request: MHDR, which is 0, JoinEUI, DevEUI, DevNonce and MIC (TS001-1.0.4
+/// The 23 bytes of a Join-Request: an MHDR of 0, JoinEUI, DevEUI, DevNonce and MIC (TS001-1.0.4
 /// §6.2.5).
 #[derive(Clone, Copy, PartialEq, Eq)]
 pub struct JoinRequestBytes {
@@ -30,7 +30,7 @@ impl Model for JoinRequestBytes {
 }
 
 impl JoinRequestBytes {
-    /// The Join-Request of these bytes; `None` where the MHDR isn't 0, so that they are no
+    /// The Join-Request of these bytes; `None` if the MHDR isn't 0, so the bytes are no
     /// Join-Request.
     pub fn new(bytes: [u8; 23]) -> Option<Self>
         ensures { SomeIff result (IsRequest bytes) bytes }
@@ -50,7 +50,7 @@ impl JoinRequestBytes {
         self.bytes
     }
 
-    /// The join server that is asked.
+    /// The join server that the device asks.
     pub fn join_eui(&self) -> Eui
         ensures { result.0 ≡ join_eui_of self.now }
     {
@@ -77,7 +77,8 @@ impl JoinRequestBytes {
         u16::from_le_bytes(bytes)
     }
 
-    /// Whether the Join-Request's MIC is that of all before it under this key (TS001-1.0.4 §6.2.5).
+    /// Whether the Join-Request's MIC is the MIC of the bytes before it under this key (TS001-1.0.4
+    /// §6.2.5).
     pub fn is_signed(&self, key: &Key) -> bool
         ensures { result ≡ pointwise nat_eq (request_mic self.now)
             (join_mic key.now.0 (mic_input self.now)) }
@@ -87,7 +88,7 @@ impl JoinRequestBytes {
     }
 }
 
-/// The text has two digits for each byte, and MHDR comes first.
+/// The text has two digits for each byte; MHDR comes first.
 impl FromText for JoinRequestBytes {
     ghost use Rattle.lw_types.specs.Hex.{IsBytes, hex_text};
     ghost use Rattle.join_server.specs.Request.{IsRequest};

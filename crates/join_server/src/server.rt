@@ -1,4 +1,4 @@
-// Joins are granted or refused.
+// Granting or refusing joins.
 ghost use Rattle.std.specs.Prelude.{◌≡◌, ◌<◌, ◌^◌, MatchResult, Ok, Err, SomeIff};
 ghost use Rattle.frame_crypt.specs.Joins.{sealed_accept};
 ghost use Rattle.join_server.specs.Join.{admission, answer_to, accept_fields, is_later};
@@ -9,9 +9,10 @@ use frame_crypt::{derive_keys, seal_accept};
 use lw_types::{JoinNonce, Key, Refusal};
 use region_eu868::CF_LIST;
 
-/// Answers a Join-Request of the state's device, with the device's state after it. Refused with
-/// `WrongJoinEui`, then `BadMic`, `DevNonceUsed` where the DevNonce isn't above the last accepted
-/// one, and `JoinNonceSpent` where 16,777,215 was granted already. Takes no memory.
+/// Answers a Join-Request of the state's device, and returns the device's state after it. Refused
+/// with `WrongJoinEui`; then with `BadMic`; then with `DevNonceUsed`, if the DevNonce isn't above
+/// the last accepted one; then with `JoinNonceSpent`, if 16,777,215 was already granted. Takes no
+/// memory.
 pub fn answer(state: &JoinState, ask: &JoinAsk) -> Result<(JoinState, JoinGrant), Refusal>
     ensures { result ≡ answer_to state.now ask.now }
 {
@@ -32,7 +33,7 @@ pub fn answer(state: &JoinState, ask: &JoinAsk) -> Result<(JoinState, JoinGrant)
     Ok((after, grant))
 }
 
-// The JoinNonce that a Join-Request is granted, if it is.
+// The JoinNonce that a Join-Request is granted, or the refusal.
 fn admit(state: &JoinState, request: &JoinRequestBytes) -> Result<JoinNonce, Refusal>
     ensures { MatchResult result
         (λ granted. (admission state.now request.now ≡ Ok tt)
@@ -61,7 +62,7 @@ fn is_later(last: Option<u16>, dev_nonce: u16) -> bool
     }
 }
 
-// The JoinNonce behind the last one, if there is one.
+// The JoinNonce after the last one, if there is one.
 fn next_join_nonce(last: Option<JoinNonce>) -> Option<JoinNonce>
     ensures { SomeIff result (next_join_nonce last < 2 ^ 24) (next_join_nonce last) }
 {

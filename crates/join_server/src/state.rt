@@ -1,8 +1,8 @@
-// What a join server keeps of a device.
+// What a join server stores of a device.
 use lw_types::{Eui, JoinNonce, Key};
 
-/// A device with its AppKey, the DevNonce that it sent last, of those accepted, and the JoinNonce
-/// that it was granted last.
+/// A device with its AppKey, the last DevNonce that was accepted from it, and the last JoinNonce
+/// that it was granted.
 #[derive(Clone, Copy, PartialEq, Eq)]
 pub struct JoinState {
     pub dev_eui: Eui,

@@ -25,7 +25,7 @@ begins (high ∷ low ∷ rest) told (Some p) fits is few split =
     subst (λ (content : List ℕ). IsFrame (high ∷ low ∷ rest) content p.1.now) (sym split.1)
     (subst (λ (behind : List ℕ). IsFrame (high ∷ low ∷ rest) (take told rest) behind) (sym split.2) (frame_is high low rest told fits (sym e) few split.0))
 
--- the bytes behind the first two, as the code cuts them
+-- the bytes after the first two, as the code cuts them
 pub begins_cut : (stream : List ℕ) (told : ℕ) (o : Option (Bor (List ℕ) × Bor (List ℕ))) → IsBytes stream → stated_length stream ≡ Some told → told ≤ 700
     → MatchOption o (length (take (length stream - 2) (drop 2 stream)) < told) (λ p. IsSplitAt (take (length stream - 2) (drop 2 stream)) told p.0.now p.1.now) → IsFirstFrame stream (Ok o)
 begins_cut stream told o fits is few split =
@@ -43,7 +43,7 @@ frame_whole high low body fits_high fits_low is few =
     two high low a b (suc zero) = b
     two high low a b (suc (suc i)) = omega arith
 
--- a frame of which this much was there
+-- a frame of which this many bytes were there
 finishes_more : (high low : ℕ) (rest piece : List ℕ) (told n : ℕ) → (high < 256) → (low < 256) → told ≡ from_be_bytes w16 (high ∷ low ∷ []) → told ≤ 700
     → length rest ≤ told → n ≡ min (told - length rest) (length piece) → Finishes (high ∷ low ∷ (rest ++ take n piece)) (drop n piece)
 finishes_more high low rest piece told n fits_high fits_low is few within at =

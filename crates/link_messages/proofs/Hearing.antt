@@ -1,4 +1,4 @@
--- Messages that are heard one after another, and a piece behind the bytes that were kept.
+-- Messages that are read one after another, and a piece after the bytes that were kept.
 use Rattle.std.proofs.Common.{◌≡◌, ℕ, ◌<◌, List, [], ◌∷◌, ◌++◌, length, Option, None, Result, Ok, Err, refl, sym, ap, subst, ◌∙◌, append_assoc, arith, inl, inr}
 use Rattle.std.specs.Prelude.{IfOk}
 use Rattle.std.proofs.lemmas.List.{append-nil}
@@ -40,7 +40,7 @@ heard_rest peer stream old new current fault left h none =
     let at : HasGathered peer stream old new current (Rest left) = subst (λ (f : Option Refusal). HasGathered peer stream old new current (end_of f left)) none h in
     (said_part peer stream left at.0 at.3, at)
 
--- ---- a piece behind what was kept
+-- ---- a piece after what was kept
 
 whole_piece : (kept piece front behind more : List ℕ) → more ≡ kept ++ front → piece ≡ front ++ behind → more ++ behind ≡ kept ++ piece
 whole_piece kept piece front behind more joined split =

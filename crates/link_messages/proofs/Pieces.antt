@@ -1,4 +1,4 @@
--- Pieces of a stream say together what the whole stream says.
+-- The pieces of a stream together say what the whole stream says.
 use Rattle.std.proofs.Common.{◌≡◌, ℕ, List, [], ◌∷◌, ◌++◌, Option, None, refl, sym, ap, subst, ◌∙◌, append_assoc}
 use Rattle.std.proofs.lemmas.List.{append-nil}
 use Rattle.link_messages.specs.declared.message.Peer.{Peer}

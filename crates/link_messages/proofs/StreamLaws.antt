@@ -1,4 +1,4 @@
--- What a stream says: one thing, and the same however it is cut.
+-- What a stream says: one thing, and the same for any way to cut it.
 use Rattle.std.proofs.Common.{◌≡◌, ℕ, ◌+◌, ◌≤◌, List, [], ◌∷◌, ◌++◌, length, take, drop, Option, Some, refl, sym, ap, subst, ◌∙◌, append_assoc, arith, inl, inr}
 use Rattle.std.proofs.lemmas.Nat.{from_be_bytes-to_be_bytes_2}
 use Rattle.std.proofs.lemmas.List.{length-append, take_at, drop_at}
@@ -10,7 +10,7 @@ use Rattle.link_messages.specs.Stream.{End, Rest, Fault, IsEnd, IsFrame, IsPart,
 
 -- ---- frames
 
--- what a frame tells of its length
+-- what a frame says about its length
 pub told_of_frame : (content behind : List ℕ) → length content ≤ 700 → stated_length (wire_frame content ++ behind) ≡ Some (length content)
 told_of_frame content behind few = ap (λ (n : ℕ). Some n) (from_be_bytes-to_be_bytes_2 (length content) (omega arith))
 
@@ -41,7 +41,7 @@ part_is_short stream part long =
     let h : IsPartOf (length stream) (Some long.0) = subst (IsPartOf (length stream)) long.1 part in
     omega (arith, h.0, long.2)
 
--- one frame stands at the front
+-- only one frame is at the front
 pub one_frame : (stream a b c d : List ℕ) → IsFrame stream a b → IsFrame stream c d → (a ≡ c) × (b ≡ d)
 one_frame stream a b c d one two =
     let len = some_same (length a) (length c) (sym (frame_told stream a b one) ∙ frame_told stream c d two) in
@@ -72,7 +72,7 @@ said_fault_more peer stream more [] refusal h = fault_more peer stream more refu
 said_fault_more peer stream more (m ∷ ms) refusal h =
     (h.0, h.1 ++ more, frame_more stream h.0 h.1 more h.2, h.3, said_fault_more (peer_after_one peer m) h.1 more ms refusal h.4)
 
--- what the rest and a piece say comes behind what was said before
+-- what the rest and a piece say comes after what was said before
 pub said_more : (peer : Option Peer) (stream rest piece : List ℕ) (ms others : List Message) (end : End)
     → IsSaid peer stream ms (Rest rest) → IsSaid (peer_after peer ms) (rest ++ piece) others end → IsSaid peer (stream ++ piece) (ms ++ others) end
 said_more peer stream rest piece [] others end h next =

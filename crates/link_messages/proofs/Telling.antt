@@ -1,4 +1,4 @@
--- What was read of content, in the words of the layout.
+-- What was read of content, stated by the layout.
 use Rattle.std.proofs.Common.{◌≡◌, ℕ, List, Option, Some, None, Result, Ok, Err, refl, sym, ap, ◌∙◌, inl, inr}
 use Rattle.lw_types.specs.Hex.{IsBytes}
 use Rattle.lw_types.specs.declared.refusal.Refusal.{Refusal}

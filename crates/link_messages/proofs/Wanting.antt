@@ -1,4 +1,4 @@
--- For what memory is taken: a message in front, or a part of a frame.
+-- What takes memory: a message at the front, or a part of a frame.
 use Rattle.std.proofs.Common.{◌≡◌, ◌∙◌, ◌⊎◌, ℕ, List, [], ◌∷◌, ◌++◌, Option, Result, Ok, Err, IfErr, inl, inr, sym, subst, append_assoc, ap}
 use Rattle.link_messages.specs.declared.message.Peer.{Peer}
 use Rattle.link_messages.specs.declared.message.Message.{Message}
@@ -7,7 +7,7 @@ use Rattle.link_messages.specs.Steps.{HasGathered}
 use Rattle.link_messages.specs.Stream.{BeginsWithMessage, IsFrame, IsPart, IsSaid, Rest, WantsMemory}
 use Rattle.link_messages.proofs.StreamLaws.{frame_more}
 
--- what holds anyway holds of a refusal
+-- what always holds also holds of a refusal
 pub if-err : {A E : Type 0} {P : Type 0} (r : Result A E) → P → IfErr r (λ _. P)
 if-err (Ok x) h = tt
 if-err (Err e) h = h
@@ -18,7 +18,7 @@ begins-frame peer stream content behind m frame saying = (content, behind, m, fr
 pub begins-more : (peer : Option Peer) (stream more : List ℕ) → BeginsWithMessage peer stream → BeginsWithMessage peer (stream ++ more)
 begins-more peer stream more h = (h.0, h.1 ++ more, h.2, frame_more stream h.0 h.1 more h.3, h.4)
 
--- a stream of which this much was read, with a message in front of what is left
+-- a stream of which this much was read, with a message at the front of what is left
 pub begins-left : (peer current : Option Peer) (stream left : List ℕ) → ((left ≡ stream) × (current ≡ peer)) ⊎ BeginsWithMessage peer stream → BeginsWithMessage current left
     → BeginsWithMessage peer stream
 begins-left peer current stream left (inl same) h = subst (λ (s : List ℕ). BeginsWithMessage peer s) same.0 (subst (λ (p : Option Peer). BeginsWithMessage p left) same.1 h)

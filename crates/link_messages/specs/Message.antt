@@ -27,7 +27,7 @@ copy_content copy =
     ++ (to_be_bytes w16 (cast_unsigned w16 copy.reception.rssi)
     ++ (to_be_bytes w32 copy.stamp ++ copy.phy_payload))))))
 
--- what an application asks for: 03 (hex) and its line
+-- a request of an application: 03 (hex) and its line
 abbrev pub content_of : Message → List ℕ
 content_of (Greeting peer) = greeting_content peer
 content_of (Copy copy) = copy_content copy
@@ -48,7 +48,7 @@ IsReception r =
 abbrev pub IsLine : List ℕ → Type 0
 IsLine line = All (λ byte. (byte < 128) × (byte ≢ 10)) line
 
--- the fields are in their ranges
+-- the fields are in range
 abbrev pub IsMessage : Message → Type 0
 IsMessage (Greeting peer) = IsPeer peer
 IsMessage (Copy copy) =
@@ -56,10 +56,10 @@ IsMessage (Copy copy) =
     × (length copy.phy_payload ≤ 255)
 IsMessage (Line line) = IsLine line
 
--- ---- who says what
+-- ---- which peer may say what
 
--- the first message of a link is a greeting, and no later one is; a gateway says copies of its own,
--- an application lines
+-- the first message of a link is a greeting, and no later one is; a gateway sends copies of its
+-- own, an application sends lines
 abbrev pub MaySay : Option Peer → Message → Type 0
 MaySay None (Greeting peer) = Unit {0}
 MaySay (Some (Gateway gateway)) (Copy copy) = copy.reception.gateway ≡ gateway

@@ -1,5 +1,4 @@
--- Reading a message from left to right. That it gives back what is said, and nothing else, is
--- proved of it.
+-- Reading a message from left to right. It is proved that this gives exactly what is said.
 use Rattle.std.specs.Prelude.{◌≡◌, ℕ, ℤ, ◌==◌, ◌&&◌, not, nat_lt, nat_le, Bool, List, [], ◌∷◌}
 use Rattle.std.specs.Prelude.{length, if◌then◌else◌, Option, Some, None, Result, Err, MatchResult}
 use Rattle.std.specs.List.{list_all}
@@ -44,7 +43,7 @@ copy_from gateway x =
     if x.0.0.gateway.0 == gateway.0
     && nat_le (length x.1) 255 then Some (Copy (frame_copy x.0.0 x.0.1 x.1)) else None
 
--- a copy of this gateway's
+-- a copy from this gateway
 abbrev pub copy_at : Eui → List ℕ → Option Message
 copy_at gateway bytes = reception_at bytes >>= copy_from gateway
 
@@ -67,7 +66,7 @@ greeting_at kind fields =
     else if kind == APPLICATION_GREETING then application_at fields
     else None
 
--- the message of this content that may be said
+-- the message of this content, if it may be said
 unfoldable pub message_at : Option Peer → List ℕ → Option Message
 message_at peer [] = None
 message_at None (kind ∷ fields) = greeting_at kind fields
@@ -76,7 +75,7 @@ message_at (Some (Gateway gateway)) (kind ∷ fields) =
 message_at (Some (Application application)) (kind ∷ fields) =
     if kind == REQUEST then line_at fields else None
 
--- a function answers what is wanted, for which it may take memory, or that there is no message
+-- a function returns what is wanted, for which it may take memory, or that there is no message
 abbrev pub Reads : Result Message Refusal → Option Message → Type 0
 Reads result None = result ≡ Err BadMessage
 Reads result (Some message) = MatchResult result (λ m. m ≡ message) (λ e. e ≡ OutOfMemory)

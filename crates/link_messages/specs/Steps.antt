@@ -1,4 +1,4 @@
--- What the functions inside a feeder answer: they read a stream frame by frame.
+-- What the functions inside a feeder return: they read a stream frame by frame.
 use Rattle.std.specs.Prelude.{◌≡◌, ℕ, ◌⊎◌, List, [], ◌++◌, Option, Some, None, Result, Ok, Err}
 use denote.Ref.{Bor}
 use Rattle.lw_types.specs.declared.refusal.Refusal.{Refusal}
@@ -17,13 +17,13 @@ IsFirstFrame stream (Ok None) = IsPart stream
 IsFirstFrame stream (Ok (Some frame)) = IsFrame stream frame.0.now frame.1.now
 IsFirstFrame stream (Err refusal) = (refusal ≡ FrameTooLong) × IsTooLong stream
 
--- bytes that were kept, with those that finish their frame, and what is behind these
+-- bytes that were kept, with those that finish their frame, and what comes after these
 abbrev pub Finishes : List ℕ → List ℕ → Type 0
 Finishes kept behind =
     (IsPart kept × (behind ≡ []))
     ⊎ (IsTooLong kept ⊎ ((content : List ℕ) × IsFrame kept content []))
 
--- the first message and what follows it, a part of a frame, or a fault; or memory is out for a
+-- the first message and what follows it, a part of a frame, or a fault; or memory runs out for a
 -- message
 abbrev pub IsNext : Option Peer → List ℕ → Result Next Refusal → Type 0
 IsNext peer stream (Ok (Next.Message message behind)) =
@@ -32,22 +32,22 @@ IsNext peer stream (Ok Next.Nothing) = IsPart stream
 IsNext peer stream (Ok (Next.Fault refusal)) = IsEnd peer stream (Fault refusal)
 IsNext peer stream (Err refusal) = (refusal ≡ OutOfMemory) × BeginsWithMessage peer stream
 
--- a message that may be said, or want of memory for it; or that there is none
+-- a message that may be said, unless memory runs out for it; or that there is none
 abbrev pub Tells : Option Peer → List ℕ → Result Message Refusal → Type 0
 Tells peer content (Ok message) = IsSaying peer content message
 Tells peer content (Err refusal) =
     ((refusal ≡ OutOfMemory) × ((message : Message) × IsSaying peer content message))
     ⊎ ((refusal ≡ BadMessage) × ¬ ((message : Message) × IsSaying peer content message))
 
--- a stream of which this is left to read said these messages so far
+-- this stream said these messages so far, and this is left to read
 pub record IsSaidSoFar (peer : Option Peer) (stream : List ℕ) (messages : List Message)
     (current : Option Peer) (left : List ℕ) : Type 0 where
   pub who : current ≡ peer_after peer messages
   pub said : (others : List Message) (end : End) → IsSaid current left others end
       → IsSaid peer stream (messages ++ others) end
 
--- messages that come behind those that were there, and who is at the other end then, of a stream
--- that ends so
+-- messages that come after those before, and the peer at the other end then, for a stream that ends
+-- so
 abbrev pub HasGathered : Option Peer → List ℕ → List Message → List Message → Option Peer → End
     → Type 0
 HasGathered peer stream old new current end =

@@ -1,5 +1,5 @@
--- What a link's stream of bytes says: messages, each in a frame, and then a rest or a fault.
--- Nothing here is about how the stream comes in pieces.
+-- What a link's stream of bytes says: messages, each in a frame, and then a rest or a fault. This
+-- doesn't depend on the pieces in which the stream comes.
 use Rattle.std.specs.Prelude.{◌≡◌, ℕ, ◌+◌, ◌<◌, ◌≤◌, ◌⊎◌, List, [], ◌∷◌, ◌++◌, length, Option, Some}
 use Rattle.std.specs.Prelude.{None}
 use Rattle.std.specs.Int.{w16, from_be_bytes}
@@ -11,7 +11,7 @@ use Rattle.link_messages.specs.declared.message.Message.TheVariants.{Greeting}
 use Rattle.link_messages.specs.Wire.{wire_frame}
 use Rattle.link_messages.specs.Message.{IsSaying}
 
--- who is at the other end after a message
+-- the peer at the other end after a message
 abbrev pub peer_after_one : Option Peer → Message → Option Peer
 peer_after_one peer (Greeting greeted) = Some greeted
 peer_after_one peer message = peer
@@ -25,9 +25,9 @@ pub data End : Type 0 where
   Rest : List ℕ → End
   Fault : Refusal → End
 
--- ---- what stands at the front of a stream
+-- ---- what is at the front of a stream
 
--- the length of content that the first two bytes tell
+-- the length of the content, as the first two bytes state it
 abbrev pub stated_length : List ℕ → Option ℕ
 stated_length [] = None
 stated_length (high ∷ []) = None
@@ -37,7 +37,7 @@ abbrev pub IsPartOf : ℕ → Option ℕ → Type 0
 IsPartOf len None = Unit {0}
 IsPartOf len (Some told) = (told ≤ 700) × (len < told + 2)
 
--- fewer bytes than a frame has, of which no more than is allowed is stated
+-- fewer bytes than a frame has, and the stated length, if both its bytes are there, is at most 700
 abbrev pub IsPart : List ℕ → Type 0
 IsPart stream = IsPartOf (length stream) (stated_length stream)
 
@@ -45,7 +45,7 @@ IsPart stream = IsPartOf (length stream) (stated_length stream)
 abbrev pub IsTooLong : List ℕ → Type 0
 IsTooLong stream = (told : ℕ) × (stated_length stream ≡ Some told) × (700 < told)
 
--- a whole frame of this content, and what follows it
+-- a whole frame with this content, and what follows it
 abbrev pub IsFrame : List ℕ → List ℕ → List ℕ → Type 0
 IsFrame stream content behind = (length content ≤ 700) × (stream ≡ wire_frame content ++ behind)
 
@@ -55,13 +55,14 @@ IsWrong peer stream =
     (content : List ℕ) × (behind : List ℕ) × IsFrame stream content behind
     × ¬ ((message : Message) × IsSaying peer content message)
 
--- a message that may be said stands in front
+-- a message that may be said is at the front
 abbrev pub BeginsWithMessage : Option Peer → List ℕ → Type 0
 BeginsWithMessage peer stream =
     (content : List ℕ) × (behind : List ℕ) × (message : Message)
     × IsFrame stream content behind × IsSaying peer content message
 
--- a message stands in front, or all of it is a part of a frame: what is no message takes no memory
+-- a message is at the front, or all of it is a part of a frame; content that is no message takes no
+-- memory
 abbrev pub WantsMemory : Option Peer → List ℕ → Type 0
 WantsMemory peer stream = IsPart stream ⊎ BeginsWithMessage peer stream
 
@@ -73,8 +74,7 @@ IsEnd peer stream (Rest bytes) = (stream ≡ bytes) × IsPart bytes
 IsEnd peer stream (Fault refusal) =
     ((refusal ≡ FrameTooLong) × IsTooLong stream) ⊎ ((refusal ≡ BadMessage) × IsWrong peer stream)
 
--- this stream of a link of this peer, who is none before the greeting, says these messages and ends
--- so
+-- this stream, on a link of this peer (none before the greeting), says these messages and ends so
 abbrev pub IsSaid : Option Peer → List ℕ → List Message → End → Type 0
 IsSaid peer stream [] end = IsEnd peer stream end
 IsSaid peer stream (message ∷ messages) end =

@@ -1,4 +1,4 @@
-// What a link says, of the pieces in which its bytes come.
+// The messages of a link, from the pieces in which its bytes come.
 ghost use Rattle.std.specs.Prelude.{◌≡◌, ◌≤◌, ◌++◌, ◌<◌, ◌+◌, ◌-◌, min, length, take, drop, IfErr};
 ghost use Rattle.std.specs.Prelude.{◌⊎◌, ◌↔◌, [], IfOk, IsSome, IsTrue, OnErr, OnOk};
 ghost use Rattle.lw_types.specs.declared.refusal.Refusal.TheVariants.{OutOfMemory};
@@ -14,29 +14,29 @@ use lw_types::Refusal;
 use std::alloc::{AllocError, Global};
 use std::marker::Model;
 
-// The length in front of the content of a frame, in bytes.
+// The number of bytes for the length, before the content of a frame.
 pub(crate) const HEAD: usize = 2;
 
 // The most bytes of a frame.
 const LONGEST: usize = HEAD + LONGEST_CONTENT;
 
-/// What a piece of a link's bytes says.
+/// The messages in a piece of a link's bytes.
 #[derive(PartialEq, Eq, Drop)]
 pub struct Fed {
     /// The messages that became whole, in order.
     pub messages: Vec<Message>,
-    /// What is wrong behind them.
+    /// What is wrong after them.
     pub fault: Option<Refusal>,
 }
 
-/// Reads the messages of a link, whose bytes come in pieces of any length. In contracts it is who
-/// is at the other end, and how the bytes so far end: in a part of a frame, or in a fault.
+/// Reads the messages of a link, whose bytes come in pieces of any length. In contracts it is the
+/// peer at the other end, and how the bytes so far end: in a part of a frame, or in a fault.
 #[derive(Drop)]
 pub struct Feeder {
     alloc: Global,
     peer: Option<Peer>,
     fault: Option<Refusal>,
-    // The frame that isn't whole.
+    // The frame that isn't whole yet.
     rest: Vec<u8>,
 }
 
@@ -51,7 +51,7 @@ impl Model for Feeder {
     ghost invariant = { λ f. IsPart f.rest.items };
 }
 
-// The length of content that is stated in the first two bytes.
+// The length of the content, as the first two bytes state it.
 fn stated_length(stream: &[u8]) -> Option<usize>
     ensures { result ≡ stated_length stream.now }
 {
@@ -59,7 +59,7 @@ fn stated_length(stream: &[u8]) -> Option<usize>
     Some(usize::from(u16::from_be_bytes(*head)))
 }
 
-// The content of the first frame and what follows it; `None` where it isn't whole.
+// The content of the first frame and what follows it; `None` if the frame isn't whole.
 fn first_frame(stream: &[u8]) -> Result<Option<(&[u8], &[u8])>, Refusal>
     ensures { IsFirstFrame stream.now result }
 {
@@ -70,7 +70,7 @@ fn first_frame(stream: &[u8]) -> Result<Option<(&[u8], &[u8])>, Refusal>
     }
 }
 
-// The length of content that is stated in the first two bytes of both together.
+// The length of the content, as the first two bytes of both together state it.
 fn stated_across(kept: &[u8], piece: &[u8]) -> Option<usize>
     requires { 0 < length kept.now }
     ensures { result ≡ stated_length (kept.now ++ piece.now) }
@@ -83,7 +83,7 @@ fn stated_across(kept: &[u8], piece: &[u8]) -> Option<usize>
     Some(usize::from(u16::from_be_bytes([*high, low])))
 }
 
-// How many bytes of the piece there are up to this length of both together.
+// The number of bytes of the piece that come before this length of both together.
 fn up_to(len: usize, kept: &[u8], piece: &[u8]) -> usize
     ensures { result ≡ min (len - length kept.now) (length piece.now) }
 {
@@ -105,7 +105,7 @@ fn finishing(kept: &[u8], piece: &[u8]) -> usize
     }
 }
 
-// The message that content is, where it may be said.
+// The message of this content, if it may be said.
 fn message_of_content(alloc: Global, peer: Option<Peer>, content: &[u8]) -> Result<Message, Refusal>
     ensures { Tells peer content.now result }
 {
@@ -140,7 +140,7 @@ fn next_message<'a>(
     }
 }
 
-// A greeting tells who is at the other end.
+// A greeting says which peer is at the other end.
 fn greet(peer: &mut Option<Peer>, message: &Message)
     ensures { peer.new ≡ peer_after_one peer.old message.now }
 {
@@ -149,7 +149,7 @@ fn greet(peer: &mut Option<Peer>, message: &Message)
     }
 }
 
-// Adds the messages of a stream. Answers what is left of it, and the fault that stands there.
+// Adds the messages of a stream. Returns what is left of it, and the fault there.
 fn collect<'a>(
     alloc: Global,
     peer: &mut Option<Peer>,
@@ -175,7 +175,7 @@ fn collect<'a>(
     }
 }
 
-// Keeps a part of a frame in the place of what was kept. The room for the longest is taken once.
+// Keeps a part of a frame in place of what was kept. Room for the longest is taken only once.
 fn keep(kept: &mut Vec<u8>, part: &[u8]) -> Result<(), AllocError>
     requires { IsPart part.now }
     ensures ok { OnOk result (kept.new.items ≡ part.now) }
@@ -188,7 +188,7 @@ fn keep(kept: &mut Vec<u8>, part: &[u8]) -> Result<(), AllocError>
     kept.extend_from_slice(part)
 }
 
-// Hears a stream behind these messages, and keeps its rest. Answers the fault that stands there.
+// Reads a stream after these messages, and keeps its rest. Returns the fault there.
 fn collect_and_keep(
     alloc: Global,
     peer: &mut Option<Peer>,
@@ -215,7 +215,7 @@ fn collect_and_keep(
     }
 }
 
-// These bytes, one behind the other.
+// These bytes, one after the other.
 fn joined<'a>(buffer: &'a mut [u8; LONGEST], kept: &[u8], front: &[u8]) -> &'a [u8]
     requires { length kept.now + length front.now ≤ LONGEST }
     ensures { result.now ≡ kept.now ++ front.now }
@@ -226,8 +226,8 @@ fn joined<'a>(buffer: &'a mut [u8; LONGEST], kept: &[u8], front: &[u8]) -> &'a [
     &buffer[..len]
 }
 
-// Hears a piece behind the bytes that were kept, and keeps the rest. Answers the fault that stands
-// there. The frame that the piece finishes is put together on the stack, so that what is no message
+// Reads a piece after the bytes that were kept, and keeps the rest. Returns the fault there. The
+// frame that the piece finishes is put together on the stack, so that content that is no message
 // takes no memory.
 fn collect_piece(
     alloc: Global,
@@ -292,11 +292,11 @@ impl Feeder {
         }
     }
 
-    /// The messages that become whole by this piece, and the fault behind them: `FrameTooLong` as
-    /// soon as a length above 700 is there, `BadMessage` for content that is no message or may not
-    /// be said. Behind a fault nothing is read any more, and each piece is answered that fault. The
-    /// only refusal is `OutOfMemory`, and then the feeder is as before the piece: it comes only
-    /// where a message stands in front, or a part of a frame that is to be kept.
+    /// Returns the messages that this piece completes, and the fault after them: `FrameTooLong` as
+    /// soon as a length above 700 is read, `BadMessage` for content that is no message or may not
+    /// be said. After a fault nothing more is read, and each further piece gets the same fault. The
+    /// only refusal is `OutOfMemory`, which leaves the feeder as it was before the piece. It comes
+    /// only if a message is at the front, or a part of a frame that has to be kept.
     pub fn feed(&mut self, piece: &[u8]) -> Result<Fed, Refusal>
         ensures fed { IfOk result (λ fed. Feeds self.old piece.now fed.messages.items self.new
             × (fed.fault ≡ fault_in self.new.end)) }
@@ -319,8 +319,8 @@ impl Feeder {
         }
     }
 
-    /// Whether a piece adds nothing to what was heard: it is empty, or a fault stands before it.
-    /// Takes no memory.
+    /// Whether a piece adds nothing to what was read: it is empty, or a fault came before it. Takes
+    /// no memory.
     pub fn adds_nothing(&self, piece: &[u8]) -> bool
         ensures nothing { IsTrue result → Feeds self.now piece.now [] self.now }
         ensures only { IsTrue result ↔ ((piece.now ≡ []) ⊎ IsSome (fault_in self.now.end)) }
@@ -328,22 +328,22 @@ impl Feeder {
         piece.is_empty() || self.fault.is_some()
     }
 
-    /// What is wrong with the bytes so far, behind which nothing is read. Takes no memory.
+    /// What is wrong with the bytes so far. Nothing after it is read. Takes no memory.
     pub fn fault(&self) -> Option<Refusal>
         ensures { result ≡ fault_in self.now.end }
     {
         self.fault
     }
 
-    /// Who is at the other end, none before the greeting.
+    /// The peer at the other end; `None` before the greeting.
     pub fn peer(&self) -> Option<Peer>
         ensures { result ≡ self.now.peer }
     {
         self.peer
     }
 
-    /// What the end of the input is: `CutShort` exactly where a part of a frame is left, and behind
-    /// a fault that fault. Takes no memory.
+    /// What the end of the input means: `CutShort` exactly if a part of a frame is left; after a
+    /// fault, that fault. Takes no memory.
     pub fn end(&self) -> Result<(), Refusal>
         ensures { result ≡ end_answer self.now.end }
     {

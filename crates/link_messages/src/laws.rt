@@ -1,4 +1,4 @@
-//! Laws of what the streams of links say. Each stands on a function that does nothing.
+//! Laws of the messages in streams. Each is the contract of a function that does nothing.
 ghost use Rattle.std.specs.Prelude.{◌≡◌, ◌++◌, List, None, Option, ℕ};
 ghost use Rattle.lw_types.specs.Hex.{IsBytes};
 ghost use Rattle.lw_types.specs.declared.refusal.Refusal.{Refusal};
@@ -12,7 +12,7 @@ use crate::message::{
     APPLICATION_GREETING, GATEWAY_GREETING, LONGEST_CONTENT, REQUEST, UPLINK_COPY,
 };
 
-/// Each stream of bytes says something, and nothing else.
+/// Each stream of bytes has exactly one meaning.
 pub fn each_stream_says_one_thing()
     ensures some { (peer : Option Peer) (stream : List ℕ) → IsBytes stream
         → (messages : List Message) × (end : End) × IsSaid peer stream messages end }
@@ -21,8 +21,9 @@ pub fn each_stream_says_one_thing()
         → IsSaid peer stream a x → IsSaid peer stream b y → (a ≡ b) × (x ≡ y) }
 {}
 
-/// Where a stream is cut makes no difference: what its rest and a piece say comes behind what it
-/// said before, a fault stays, and the pieces that a new feeder is fed say what they are joined.
+/// How a stream is cut makes no difference. The messages of its rest and a further piece come after
+/// the messages so far; a fault stays; and the pieces that a new feeder is given say the same as
+/// all of them joined.
 pub fn cuts_make_no_difference()
     ensures rest { (peer : Option Peer) (stream : List ℕ) (rest : List ℕ) (piece : List ℕ)
         (messages : List Message) (others : List Message) (end : End)
@@ -39,8 +40,8 @@ pub fn cuts_make_no_difference()
         × IsSaid None (joined_pieces pieces) messages heard.end }
 {}
 
-/// What each content begins with, the most bytes of content of a frame, and how many bytes of
-/// length stand before it.
+/// The first byte of each content, the most bytes of content of a frame, and the number of bytes
+/// for the length before it.
 pub fn limits_are_these()
     ensures gateway { GATEWAY_GREETING ≡ 0 }
     ensures copy { UPLINK_COPY ≡ 1 }

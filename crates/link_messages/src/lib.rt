@@ -1,5 +1,5 @@
-//! What gateways and applications say on their links: the messages of a link's bytes, in whatever
-//! pieces they come.
+//! What gateways and applications send on their links: the messages in a link's bytes, which come
+//! in pieces of any length.
 #![tactic(auto)]
 
 mod feeder;

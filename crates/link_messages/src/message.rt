@@ -1,27 +1,27 @@
-// What is said on the links of a network.
+// The messages on the links of a network.
 use crate::line::Line;
 use devices::Application;
 use lw_types::{Eui, FrameCopy};
 
-/// Who is at the other end of a link.
+/// The peer at the other end of a link.
 #[derive(Clone, Copy, PartialEq, Eq)]
 pub enum Peer {
     Gateway(Eui),
     Application(Application),
 }
 
-/// What a gateway or an application says on its link.
+/// A message from a gateway or an application on its link.
 #[derive(PartialEq, Eq, Drop)]
 pub enum Message {
-    /// Who it is: the first message of each link, and no later one.
+    /// Which peer it is: the first message of each link, and no later one.
     Greeting(Peer),
     /// A gateway's copy of a frame.
     Copy(FrameCopy),
-    /// What an application asks for, in ASCII and without a newline.
+    /// A request of an application, in ASCII and without a newline.
     Line(Line),
 }
 
-// What each content begins with.
+// The first byte of each content.
 pub(crate) const GATEWAY_GREETING: u8 = 0x00;
 
 pub(crate) const UPLINK_COPY: u8 = 0x01;

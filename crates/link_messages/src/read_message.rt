@@ -1,4 +1,4 @@
-// From the content of a frame to the message that it is.
+// From the content of a frame to its message.
 ghost use Rattle.std.specs.Prelude.{◌≡◌};
 ghost use Rattle.std.specs.List.{list_all};
 ghost use Rattle.byte_fields.specs.Reading.{Gives};
@@ -35,7 +35,7 @@ fn heard(fields: &mut FieldReader<'_>) -> Option<(Reception, u32)>
     Some((reception, fields.u32_be()?))
 }
 
-// A copy of this gateway's.
+// A copy from this gateway.
 fn read_copy(alloc: Global, gateway: Eui, bytes: &[u8]) -> Result<Message, Refusal>
     ensures { Reads result (copy_at gateway bytes.now) }
 {
@@ -53,7 +53,7 @@ fn is_line(bytes: &[u8]) -> bool
     bytes.iter().all(|byte| *byte < 0x80 && *byte != NEWLINE)
 }
 
-// A line of an application.
+// A line from an application.
 fn line(alloc: Global, bytes: &[u8]) -> Result<Message, Refusal>
     ensures { Reads result (line_at bytes.now) }
 {
@@ -98,8 +98,8 @@ fn greeting(kind: u8, fields: &[u8]) -> Option<Message>
     }
 }
 
-/// The message of this content that may be said on a link of this peer, who is `None` before its
-/// greeting. Any other content is refused as `BadMessage`, whether or not there is memory.
+/// The message of this content, if it may be said on a link of this peer; the peer is `None` before
+/// its greeting. Any other content is refused as `BadMessage`, whether or not memory is available.
 #[tactic(auto, unfolding(crate::specs::MessageReading::message_at))]
 pub(crate) fn read_message(
     alloc: Global,

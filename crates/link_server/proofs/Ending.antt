@@ -29,7 +29,7 @@ module _ {D F C V : Type 0} (disk : Ghosts D) (gives : FeedGives F) (effects : V
   none_failed old new p q x y (count ∷ counts) done (s, (f, (o, (chain, rest)))) =
       none_then disk.failures disk.outlook old s new chain.calls (none_failed s new f q o y counts done rest)
 
-  -- so it is where they ended well
+  -- so it is if they ended well
   pub none_failed_by : (old new : Store D disk) (p q : F) (x y : C) (counts : List ℕ) (result : Result (Unit {0}) Refusal)
       → MakeChains disk gives effects call most old new p q x y (answers_of counts result)
       → OnOk result (NoneFailed disk.failures disk.outlook old new)
@@ -47,7 +47,7 @@ module _ {D F C V : Type 0} (disk : Ghosts D) (gives : FeedGives F) (effects : V
         let both : length (batch ++ batched_decisions batches) ≡ length batch + length (batched_decisions batches) = length-append batch (batched_decisions batches) in
         omega (arith, first, others, both)
 
-    -- why a chain ended well doesn't change the count
+    -- why a chain that ended well doesn't change the count
     still_counted : (s : StoreState) (batches : List (List Decision)) (p q : F) → HasEnded gives most s batches p q → count q ≡ count p
     still_counted s batches p q (inl (same, why)) = ap count same
     still_counted s batches p q (inr (few, given)) = let is : count q ≡ count p + 0 = counts_each p _ [] q given in omega (arith, is)
@@ -72,7 +72,7 @@ module _ {D F C V : Type 0} (disk : Ghosts D) (gives : FeedGives F) (effects : V
         let others : new.seq + count f ≡ s.seq + count q = counted s new f q o y counts done rest in
         omega (arith, one, others)
 
-  -- where they ended well, all that the feed counts is committed
+  -- if they ended well, all that the feed counts is committed
   pub counted_by : (old new : Store D disk) (p q : F) (x y : C) (counts : List ℕ) (result : Result (Unit {0}) Refusal)
       → MakeChains disk gives effects call most old new p q x y (answers_of counts result) → (count : F → ℕ)
       → ((p : F) (n : ℕ) (batch : List Decision) (q : F) → gives p n (Ok batch) q → count q ≡ count p + length batch)
@@ -85,7 +85,7 @@ module _ {D F C V : Type 0} (disk : Ghosts D) (gives : FeedGives F) (effects : V
   refused_as : (old new : Store D disk) (e is : Refusal) → e ≡ is → IsRefused disk old new is → IsRefused disk old new e
   refused_as old new e is same why = subst (IsRefused disk old new) (sym same) why
 
-  -- by whether the store had failed
+  -- by cases: whether the store had failed
   unchecked : (old new : Store D disk) (e : Refusal) (failed : Bool) → old.failed ≡ failed → NoneFailed disk.failures disk.outlook old new
       → IsUntouched disk.state old new ⊎ (e ≡ DeviceFailed)
       → MatchBool failed (e ≡ Failed)
@@ -128,7 +128,7 @@ module _ {D F C V : Type 0} (disk : Ghosts D) (gives : FeedGives F) (effects : V
           | inr (is, last) ↦ refused_as old new e DeviceFailed is last
         ]
 
-    -- behind chains that ended well
+    -- after chains that ended well
     refused_behind : (old s new : Store D disk) (e : Refusal) → NoneFailed disk.failures disk.outlook old s → IsRefused disk s new e → IsRefused disk old new e
     refused_behind old s new DeviceFailed first last =
         (calls_then {T = Unit {0}} disk.failures disk.outlook old s new (Err DeviceFailed) first (refl, last)).1
@@ -152,13 +152,13 @@ module _ {D F C V : Type 0} (disk : Ghosts D) (gives : FeedGives F) (effects : V
   refused_by old new p q x y counts (Ok done) made wants_memory = tt
   refused_by old new p q x y counts (Err e) made wants_memory = all_refused wants_memory old new p q x y counts e made
 
--- what is known of a refusal that is answered on
+-- what is known of a refusal that is passed on
 pub answered_on : {T : Type 0} (result : Result T Refusal) (e : Refusal) (holds : Refusal → Type 0)
     → IsErrAnd result (λ answered. answered ≡ e) → holds e → IfErr result holds
 answered_on (Ok x) e holds is h = tt
 answered_on (Err answered) e holds is h = subst holds (sym is) h
 
--- ---- what is told of a life
+-- ---- what is reported of a life
 
 -- a life that was refused gives no report
 pub ended_well : {S T : Type 0} (ended : Result T Refusal) (report : Result S ServeFault) (holds : Type 0)
@@ -167,7 +167,7 @@ ended_well (Ok done) (Ok report) holds refused h = h
 ended_well (Ok done) (Err fault) holds refused h = tt
 ended_well (Err e) report holds refused h = subst (λ r. OnOk r holds) (sym refused) tt
 
--- one that gives a report committed what that tells
+-- a life that gives a report committed what the report says
 pub told_committed : (ended : Result ℕ Refusal) (report : Result LifeReport ServeFault) (before after : ℕ)
     → IfErr ended (λ refusal. report ≡ Err (Refused refusal)) → IfOk ended (λ taken. MatchResult report (λ r. r.made ≡ taken) IsUntold)
     → IfOk ended (λ taken. after + 0 ≡ before + taken) → IfOk report (λ r. after ≡ before + r.made)
@@ -181,7 +181,7 @@ module _ {D : Type 0} (disk : Ghosts D) where
   untold old new fault none (inl is) = subst (IsFaultOf disk old new) (sym is) none
   untold old new fault none (inr is) = subst (IsFaultOf disk old new) (sym is) none
 
-  -- why there is none
+  -- why there is no report
   pub told_refused : (ended : Result ℕ Refusal) (report : Result LifeReport ServeFault) (old new : Store D disk)
       → IfErr ended (λ refusal. report ≡ Err (Refused refusal)) → IfOk ended (λ taken. MatchResult report (λ r. r.made ≡ taken) IsUntold)
       → OnOk ended (NoneFailed disk.failures disk.outlook old new) → IfErr ended (IsRefused disk old new)

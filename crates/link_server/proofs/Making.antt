@@ -1,4 +1,4 @@
--- One ring more.
+-- One more ring.
 use Rattle.std.proofs.Common.{◌≡◌, ◌∷◌, ◌++◌, ℕ, List, [], subst, sym}
 use Rattle.outbox.specs.declared.ends.Inlet.{Inlet}
 use Rattle.outbox.specs.declared.ends.Outlet.{Outlet}
@@ -13,7 +13,7 @@ one_ring_more places (other ∷ others) [] outlet inlet are one = absurd are
 one_ring_more places (first ∷ outlets) (other ∷ inlets) outlet inlet (here, are) one =
     (here, one_ring_more places outlets inlets outlet inlet are one)
 
--- into lists that hold it last
+-- into lists whose last element it is
 pub rings_with_one_more : (places : ℕ) (outlets all_outlets : List Outlet) (inlets all_inlets : List Inlet)
     (outlet : Outlet) (inlet : Inlet) → AreNewRings places outlets inlets → IsNewRing places outlet inlet
     → all_outlets ≡ outlets ++ outlet ∷ [] → all_inlets ≡ inlets ++ inlet ∷ []

@@ -14,7 +14,7 @@ is_within_at marks place (inr past) is = absurd (false≢true (sym (get_or_past 
 is_within : (marks : List Bool) (place : ℕ) → IsSet marks place → place < length marks
 is_within marks place is = is_within_at marks place (cases_lt place (length marks)) is
 
--- a mark stays
+-- a mark isn't removed
 stays : (b : Bool) (marks : List Bool) (link place : ℕ) → IsSet marks place → IsSet (cond b (set marks link true) marks) place
 stays false marks link place is = is
 stays true marks link place is =
@@ -60,7 +60,7 @@ only_link (Some link) ring marks place is =
       | inr (rung, same) ↦ inr (rung, ap (λ (l : ℕ). Some l) same)
     ]
 
--- the links of the first applications, so many, are marked
+-- the links of the first applications, this number, are marked
 pub record AreMarkedSoFar (applications : List (Option ℕ)) (links seen : ℕ) (before now : List Bool) : Type 0 where
   pub count : length now ≡ length before
   pub kept : (place : ℕ) → IsSet before place → IsSet now place
@@ -84,7 +84,7 @@ same_ring : (links application ring top : ℕ) (marks : List Bool) → ring ≡ 
 same_ring links application ring top marks sum few (inl low) = omega (arith, sum, few, low)
 same_ring links application ring top marks sum few (inr low) = omega (arith, sum, few, low)
 
--- one application more
+-- one more application
 pub one_more : (applications : List (Option ℕ)) (links seen ring top : ℕ) (before now new : List Bool) (link : Option ℕ)
     → AreMarkedSoFar applications links seen before now
     → slice_get applications seen ≡ Some link → ring ≡ min (links + seen) top → length before ≤ top
@@ -123,7 +123,7 @@ one_more applications links seen ring top before now new link so_far at sum few 
           ];
     })
 
--- once all are seen
+-- when all were seen
 pub all_marked : (directory : Directory) (links seen : ℕ) (before now : List Bool)
     → AreMarkedSoFar directory.applications links seen before now → length directory.applications ≤ seen
     → AreLinksMarked directory links before now

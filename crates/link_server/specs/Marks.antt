@@ -1,4 +1,4 @@
--- Which links are rung for what came into rings that applications have of their own.
+-- Which links are rung for effects that were put into applications' own rings.
 use Rattle.std.specs.Prelude.{◌≡◌, ◌<◌, ◌+◌, ◌⊎◌, ℕ, Bool, true, false, cond, List, length}
 use Rattle.std.specs.Prelude.{Option, None, Some, slice_get, slice_index_or, slice_set}
 use Rattle.directory.specs.declared.names.Directory.{Directory}
@@ -7,14 +7,14 @@ use Rattle.directory.specs.declared.names.Directory.{Directory}
 abbrev pub IsSet : List Bool → ℕ → Type 0
 IsSet marks place = slice_index_or marks place false ≡ true
 
--- a link is marked too where this ring is marked; there may be none
+-- a link is marked too if this ring is marked; there may be no link
 abbrev pub with_link : Option ℕ → ℕ → List Bool → List Bool
 with_link None ring marks = marks
 with_link (Some link) ring marks =
     cond (slice_index_or marks ring false) (slice_set marks link true) marks
 
--- An application has this link, and its own ring is marked. The own rings come behind those of so
--- many links.
+-- An application has this link, and its own ring is marked. The own rings come after those of the
+-- links, which are this number.
 abbrev pub IsRungFor : Directory → ℕ → List Bool → ℕ → Type 0
 IsRungFor directory links marks link =
     (application : ℕ) × ((slice_get directory.applications application ≡ Some (Some link))

@@ -1,4 +1,4 @@
--- The rings of a life, as they are made.
+-- The rings of a life when they are made.
 use Rattle.std.specs.Prelude.{◌≡◌, ◌∷◌, ⊤, ℕ, List, []}
 use Rattle.lw_types.specs.declared.refusal.Refusal.{Refusal}
 use Rattle.rtrb.specs.Ring.{sent, received, known_free, IsPair}
@@ -8,13 +8,13 @@ use Rattle.outbox.specs.Ring.{put_in, room_of, taken_from, AreEnds}
 use Rattle.outbox.specs.declared.ends.Inlet.{Inlet}
 use Rattle.outbox.specs.declared.ends.Outlet.{Outlet}
 
--- the two ends of one ring of so many places, into which nothing came yet
+-- the two ends of one empty ring with this number of places
 abbrev pub IsNewRing : ℕ → Outlet → Inlet → Type 0
 IsNewRing places outlet inlet =
     AreEnds outlet inlet × ((put_in outlet ≡ []) × ((taken_from inlet ≡ [])
     × (room_of outlet ≡ places)))
 
--- the ends of new rings, those of one ring at the same place of both lists
+-- the ends of new rings; the two ends of one ring are at the same place of both lists
 abbrev pub AreNewRings : ℕ → List Outlet → List Inlet → Type 0
 AreNewRings places [] [] = ⊤
 AreNewRings places [] (inlet ∷ inlets) = ⊥
@@ -22,7 +22,7 @@ AreNewRings places (outlet ∷ outlets) [] = ⊥
 AreNewRings places (outlet ∷ outlets) (inlet ∷ inlets) =
     IsNewRing places outlet inlet × AreNewRings places outlets inlets
 
--- the two ends of one ring of so many refusals, into which nothing came yet
+-- the two ends of one empty ring for this number of refusals
 abbrev pub IsNewRingOfRefusals : {A P : Type 0} → ℕ → Producer Refusal A P → Consumer Refusal A P
     → Type 0
 IsNewRingOfRefusals places producer consumer =

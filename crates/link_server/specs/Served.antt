@@ -1,4 +1,4 @@
--- What serving makes of a store.
+-- How serving changes a store.
 use Rattle.std.specs.Prelude.{◌≡◌, ◌≤◌, ◌⊎◌, ℕ, true, List}
 use Rattle.disk.specs.declared.disk.Disk.{Ghosts}
 use Rattle.lw_types.specs.declared.refusal.Refusal.{Refusal}
@@ -14,15 +14,15 @@ use Rattle.flusher.specs.Calls.{LastFailed, NoneFailed}
 use Rattle.flusher.specs.Lived.{HaveLed}
 use Rattle.flusher.specs.Lives.{LifeEvent, Lives, lives_after_all}
 
--- whatever lives led a store here, events made them go on and led it there
+-- if some lives led a store to the first state, these lives with more events led it to the second
 abbrev pub IsLedOn : StoreState → StoreState → Type 0
 IsLedOn here there =
     (t : TableState) (number : ℕ) (lives : Lives) → HaveLed lives t number here
     → (events : List LifeEvent) × HaveLed (lives_after_all t lives events) t number there
 
--- Why serving was refused, by the refusal. Where a call of the disk failed it was the last one, and
--- else none did: there was no memory, a batch was out of step, the store had failed before, or its
--- checkpoints have no further generation.
+-- Why serving was refused, by the refusal. If a call of the disk failed, it was the last call.
+-- Otherwise no call failed, and memory ran out, a batch was out of step, the store had failed
+-- before, or its checkpoints have no further generation.
 abbrev pub IsRefused : {D : Type 0} (disk : Ghosts D) → Store D disk → Store D disk → Refusal
     → Type 0
 IsRefused disk old new DeviceFailed = LastFailed disk.failures disk.outlook old new
@@ -35,13 +35,13 @@ IsRefused disk old new Damaged =
     × (LAST_GENERATION ≤ (store_state disk.state new).log.generation)
 IsRefused disk old new other = ⊥
 
--- why a life has no report: nobody could come in, or it was refused
+-- why a life has no report: links couldn't come in, or it was refused
 abbrev pub IsFaultOf : {D : Type 0} (disk : Ghosts D) → Store D disk → Store D disk → ServeFault
     → Type 0
 IsFaultOf disk old new Listen = new ≡ old
 IsFaultOf disk old new (Refused refusal) = IsRefused disk old new refusal
 
--- why nothing is told of a life that ended well: there was no memory, or what was decided isn't
--- what was taken
+-- why a life that ended well gives no report: memory ran out, or the number decided isn't the
+-- number taken
 abbrev pub IsUntold : ServeFault → Type 0
 IsUntold fault = (fault ≡ Refused OutOfMemory) ⊎ (fault ≡ Refused OutOfStep)

@@ -1,4 +1,4 @@
-// The flusher commits what was decided, and lets its effects out.
+// The flusher, which commits what was decided and releases its effects.
 ghost use Rattle.std.specs.Prelude.{◌≡◌, ◌+◌, ℕ, IsTrue, IfErr, IfOk, OnOk, false, slice_index_or};
 ghost use Rattle.directory.specs.declared.names.Directory.{Directory};
 ghost use Rattle.flusher.specs.Calls.{NoneFailed};
@@ -23,13 +23,13 @@ use std::sync::Wait;
 use store::Store;
 use timed_disk::DiskTimes;
 
-// The most rings that there are.
+// The most rings.
 const MOST_RINGS: usize = MOST_PLACES as usize + APPLICATIONS;
 
-/// Commits, and lets effects out, until nothing is decided any more and all is committed; then
-/// tells the senders that nothing more comes, and gives how many decisions were taken. A refusal
-/// closes the links, and what waits for them is lost. Where it ends well no call of the disk
-/// failed, and the store's number grew by as many as were taken.
+/// Commits decisions and sends out their effects, until nothing is decided any more and everything
+/// is committed. Then announces to the senders that nothing more comes, and returns how many
+/// decisions were taken. A refusal closes the links, and what waits for them is lost. If it ends
+/// well, no call of the disk failed, and the store's number grew by the number of decisions taken.
 pub(crate) fn flush<B: Books, R: Wait, D: Disk>(
     rt: &R,
     alloc: Global,
@@ -54,7 +54,7 @@ pub(crate) fn flush<B: Books, R: Wait, D: Disk>(
             let_out(rt, alloc, server, outlets.as_mut_slice(), released);
             tell_times(rt, server, times);
         };
-        // a checkpoint may be written with no batch behind it
+        // a checkpoint may be written with no batch after it
         let mut done = || {
             tell_times(rt, server, times);
             is_done(rt, server, &mut is_ticked)
@@ -70,15 +70,15 @@ pub(crate) fn flush<B: Books, R: Wait, D: Disk>(
     Ok(feed.share())
 }
 
-// Nothing more comes by these rings.
+// Ends these rings: nothing more comes through them.
 fn finish(outlets: Vec<Outlet>) {
     for outlet in outlets {
         let _ = outlet.finish();
     }
 }
 
-// The bell of each link that gets something rings once. An application that has no link finds it
-// when it comes.
+// Puts effects into the rings. The bell of each link that gets something rings once. An application
+// without a link finds its effects when it comes.
 fn let_out<B: Books, R: Wait>(
     rt: &R,
     alloc: Global,
@@ -104,7 +104,7 @@ fn let_out<B: Books, R: Wait>(
     ring_links(server, &marks);
 }
 
-// Operators who watch are told whom the effects were for that were lost.
+// Sends the operators who watch the names whose effects were lost.
 fn tell_missed<B: Books, R: Wait>(rt: &R, server: &LiveServer<B>, missed: Vec<Recipient>) {
     for name in missed {
         server.tell(rt, Sight::Dropped(name, 1));
@@ -119,7 +119,7 @@ fn ring_links<B: Books>(server: &LiveServer<B>, marks: &[bool]) {
     }
 }
 
-// Operators who watch are told what the disk did meanwhile.
+// Sends the operators who watch what the disk did meanwhile.
 fn tell_times<B: Books, R: Wait>(rt: &R, server: &LiveServer<B>, times: Option<&DiskTimes>) {
     let Some(times) = times else {
         return;
@@ -132,8 +132,8 @@ fn tell_times<B: Books, R: Wait>(rt: &R, server: &LiveServer<B>, times: Option<&
     }
 }
 
-// Marks the links of applications whose own rings are marked, which come behind those of so many
-// links.
+// Marks the links of applications whose own rings are marked. These rings come after those of the
+// links, which are this number.
 fn mark_links(directory: &Directory, links: usize, marks: &mut [bool])
     ensures { AreLinksMarked directory.now links marks.old marks.new }
 {
@@ -143,7 +143,7 @@ fn mark_links(directory: &Directory, links: usize, marks: &mut [bool])
     }
 }
 
-// Marks the link of an application, if it has one, where its own ring is marked.
+// Marks the link of an application, if it has one, when its own ring is marked.
 fn mark_link(link: Option<usize>, ring: usize, marks: &mut [bool])
     ensures { marks.new ≡ with_link link ring marks.old }
 {
@@ -162,7 +162,7 @@ fn is_marked(marks: &[bool], place: usize) -> bool
     place < marks.len() && marks[place]
 }
 
-// Operators who watch are told of the joins that were granted.
+// Sends the operators who watch the joins that were granted.
 fn tell_joins<B: Books, R: Wait>(rt: &R, server: &LiveServer<B>, released: &[Released]) {
     for one in released {
         if let Some(sight) = Sight::of_effect(one.effect()) {
@@ -171,8 +171,8 @@ fn tell_joins<B: Books, R: Wait>(rt: &R, server: &LiveServer<B>, released: &[Rel
     }
 }
 
-// Whether nothing is left, behind an empty batch. The last tick may have been made behind that
-// batch, so one more is asked for once the tick is seen. Else waits for a decision.
+// Whether nothing is left, after an empty batch. The last tick may have been made after that batch,
+// so one more batch is asked for after the tick is seen. Otherwise waits for a decision.
 fn is_done<B: Books, R: Wait>(rt: &R, server: &LiveServer<B>, is_ticked: &mut bool) -> bool
     ensures done { result ≡ is_ticked.old }
     ensures kept { IsTrue is_ticked.old → IsTrue is_ticked.new }

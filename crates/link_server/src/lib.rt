@@ -1,7 +1,7 @@
-//! The server's threads over sockets. Gateways and applications have a link each, with a worker
-//! that reads it and a sender that writes it. One closer closes the windows that are due, and one
-//! flusher commits what was decided, and routes what may leave to the links. [`serve_links`] is one
-//! life of them.
+//! The server's threads over sockets. Each gateway and each application has a link, with a worker
+//! that reads it and a sender that writes it. One closer closes the windows that are due. One
+//! flusher commits what was decided and routes the released effects to the links. [`serve_links`]
+//! is one life of them.
 #![tactic(auto)]
 
 mod flushing;

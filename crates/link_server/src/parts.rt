@@ -1,4 +1,4 @@
-// What the threads of a life own, before they are started.
+// What the threads of a life own before they are started.
 ghost use Rattle.std.specs.Prelude.{◌≡◌, ◌+◌, ◌++◌, List, length, map, All, IfErr, IfOk};
 ghost use Rattle.lw_types.specs.declared.refusal.Refusal.TheVariants.{OutOfMemory};
 ghost use Rattle.link_server.specs.Rings.{AreNewRings, IsNewRingOfRefusals};
@@ -11,8 +11,8 @@ use server_links::PLACES;
 use session_core::{Books, Seat, Shared};
 use std::alloc::Global;
 
-/// What the two threads of a link own: the worker a seat and the end of a ring into which refusals
-/// go, the sender the ends from which effects and refusals come.
+/// What the two threads of a link own. The worker has a seat, and the end of a ring into which
+/// refusals go. The sender has the ends from which effects and refusals come.
 #[derive(Drop)]
 pub(crate) struct LinkParts<B: Books> {
     pub(crate) seat: Seat<B>,
@@ -22,7 +22,7 @@ pub(crate) struct LinkParts<B: Books> {
 }
 
 /// The parts of each link's threads, the closer's seat, and the flusher's outlets: one for each
-/// link, and behind them one for each application that has a ring of its own.
+/// link, and after them one for each application that has a ring of its own.
 #[derive(Drop)]
 pub(crate) struct Parts<B: Books> {
     pub(crate) links: Vec<LinkParts<B>>,
@@ -31,8 +31,8 @@ pub(crate) struct Parts<B: Books> {
 }
 
 impl<B: Books> Parts<B> {
-    /// The parts of so many links. It takes every seat. Refused with `OutOfMemory` for want of
-    /// memory.
+    /// The parts for this number of links. It takes every seat. Refused with `OutOfMemory` if
+    /// memory runs out.
     pub(crate) fn new(alloc: Global, shared: &mut Shared<B>, links: usize) -> Result<Self, Refusal>
         requires { shared.old.left ≡ links + 1 }
         ensures links { IfOk result (λ parts. length parts.links.items ≡ links) }
@@ -63,8 +63,8 @@ impl<B: Books> Parts<B> {
         })
     }
 
-    /// A ring for each application, behind those of the links: what leaves for it waits there, also
-    /// while it has no link. Refused with `OutOfMemory` for want of memory.
+    /// Adds a ring for each application, after those of the links. What is sent to the application
+    /// waits there, also while it has no link. Refused with `OutOfMemory` if memory runs out.
     pub(crate) fn add_lines(&mut self, alloc: Global) -> Result<Vec<Inlet>, Refusal>
         ensures lines { IfOk result (λ inlets. length inlets.items ≡ APPLICATIONS) }
         ensures rings { IfOk result (λ inlets. (added : List Outlet)

@@ -1,4 +1,4 @@
-// The threads of a life are started and joined.
+// Starting and joining the threads of a life.
 ghost use Rattle.std.specs.Prelude.{◌≡◌, ◌<◌, ◌∷◌, ◌++◌, [], IsSome, IsSomeAnd, IsTrue, MatchBool};
 ghost use Rattle.std.specs.Prelude.{◌+◌, IfErr, IfOk, OnOk, length, vec_capacity, vec_len};
 ghost use Rattle.flusher.specs.Calls.{NoneFailed};
@@ -19,8 +19,8 @@ use std::thread;
 use std::thread::{JoinHandle, Scope, Threads};
 use store::Store;
 
-/// What is left of a life: the store, how many decisions were taken and committed, or why not all
-/// were, and the seats that came back, in the order of the links and the closer's last.
+/// What is left of a life: the store; the number of decisions that were taken and committed, or why
+/// not all were; and the seats that came back, in the order of the links, the closer's last.
 #[derive(Drop)]
 pub(crate) struct LifeEnd<D: Disk, B: Books> {
     pub(crate) store: Store<D>,
@@ -28,8 +28,8 @@ pub(crate) struct LifeEnd<D: Disk, B: Books> {
     pub(crate) seats: Vec<Seat<B>>,
 }
 
-/// Starts the threads of a life, calls `on_begun` once all run, flushes until the life ends, and
-/// joins them.
+/// Starts the threads of a life, calls `on_begun` when all run, flushes until the life ends, and
+/// joins the threads.
 pub(crate) fn run<
     'x,
     B: Books + Send + Sync,
@@ -133,10 +133,10 @@ fn run_in<
     }
 }
 
-// The threads that were started. Where one couldn't be, or can't be joined, they aren't whole.
+// The threads that were started. They aren't whole if one couldn't be started or can't be joined.
 #[derive(Drop)]
 struct Started<B: Books> {
-    // In the order of their links, and the closer last.
+    // In the order of their links; the closer comes last.
     seated: Vec<JoinHandle<Seat<B>>>,
     senders: Vec<JoinHandle<()>>,
     attendants: Vec<JoinHandle<()>>,
@@ -253,7 +253,7 @@ impl<B: Books + Send + Sync> Started<B> {
         self.is_whole = keep_thread(&mut self.attendants, thread) && self.is_whole;
     }
 
-    // The seats that come back. The attendants end last, so that operators are told of the end.
+    // The seats that come back. The attendants end last, so that operators learn of the end.
     fn join<R: Threads + Wait>(
         self,
         rt: &R,
@@ -282,7 +282,7 @@ impl<B: Books + Send + Sync> Started<B> {
     }
 }
 
-// Whether there is a thread, and it is kept.
+// Keeps a thread. Returns whether there was one and it was kept.
 fn keep_thread<T: Drop>(threads: &mut Vec<JoinHandle<T>>, thread: Option<JoinHandle<T>>) -> bool
     ensures kept { MatchBool result
         (IsSomeAnd thread (λ one. threads.new.items ≡ threads.old.items ++ one ∷ []))

@@ -32,34 +32,35 @@ use std::thread::Threads;
 use store::Store;
 use timed_disk::DiskTimes;
 
-/// Accepts so many links, closes the listener, and serves the links until the inputs of all have
-/// ended: what they say is decided and committed to the store, and what may leave goes out on them.
-/// Gives the store back with what came of it.
+/// Accepts this number of links, closes the listener, and serves the links until all their inputs
+/// have ended. What they send is decided and committed to the store, and released effects are sent
+/// on them. Returns the store, and the result of the life.
 ///
 /// Each link has a worker, which passes the gate before each of its calls, and a sender, with a
-/// ring of 1,024 effects and one of 1,024 refusals. A link is read no further behind bytes that are
-/// no message, a length above 700, an end inside a frame, a greeting under a name that a link has,
-/// or of a gateway where 64 are linked; and, which counts as no fault, where there is no memory for
-/// its messages. Its sender goes on, and its name stays its own. An effect is dropped whose gateway
-/// or application isn't linked, or whose link's ring is full; so is a refusal, uncounted, that
-/// finds its ring full.
+/// ring of 1,024 effects and one of 1,024 refusals. A link is at fault, and read no further, after
+/// bytes that are no message, a length above 700, or an end inside a frame. The same holds after a
+/// greeting with a name that a link already has, or a greeting of a gateway when 64 have links. A
+/// link is also read no further if memory for its messages runs out, which doesn't count as a
+/// fault. Its sender goes on, and it keeps its name. An effect is dropped if its gateway or
+/// application has no link, or if the link's ring is full. A refusal that finds its ring full is
+/// dropped too, but not counted.
 ///
-/// At the end a last tick closes the windows that are open, 200 ms past the effective time, what is
-/// left is committed, and each sender writes what waits. A peer that takes nothing for eight
-/// seconds then is given up, and what is left for it is dropped. A store that fails ends the life
-/// at once: the links are closed, and what waits for them is lost. Every thread is joined in each
-/// case.
+/// At the end a last tick, 200 ms past the effective time, closes the windows that are open. Then
+/// what is left is committed, and each sender writes what waits. A peer that then takes nothing for
+/// eight seconds is given up, and what is left for it is dropped. A store that fails ends the life
+/// at once: the links are closed, and what waits for them is lost. In each case every thread is
+/// joined.
 ///
-/// A worker waits in its read, a sender and the flusher for a bell, and the closer until the oldest
-/// window is due, and for 2 ms at least: frames that come close together are committed together,
-/// and requests at once. None of them polls, but a sender whose peer takes nothing, which tries
-/// again each second, and the closer where there is no memory. It need not return: an input may
-/// never end.
+/// A worker waits in its read. A sender and the flusher wait for a bell. The closer waits until the
+/// oldest window is due, and for at least 2 ms: frames that come close together are committed
+/// together, requests at once. Threads poll in two cases only: a sender whose peer takes nothing
+/// tries again each second, and the closer tries again when memory runs out. The call need not
+/// return, since an input may never end.
 ///
-/// Of all this the contract says that the shares sum to the decisions; that where there is a report
-/// the store's number grew by as many, and no call of the disk failed; why there is none; and that
-/// the store was led on from where it was. What it calls is proved for itself, and the rest is
-/// shown by tests on sockets.
+/// The contract says only this: the shares sum to the number of decisions made. If there is a
+/// report, the store's number grew by this number, and no call of the disk failed. If there is
+/// none, it says why. And the store was led on from where it was. The calls that it makes have
+/// proofs of their own; the rest is shown by tests on sockets.
 pub fn serve_links<
     'x,
     R: Threads + Wait + Sync,
@@ -97,27 +98,28 @@ pub fn serve_links<
     begin(&context, store, links, None, None, &mut NobodyTold)
 }
 
-/// Serves links that come in by a listener, as many at a time as there are places, until the life
-/// ends: what they say is decided and committed to the store, and what may leave goes out on them.
-/// Gives the store back with what came of it.
+/// Serves links that come in through a listener, as many at a time as there are places, until the
+/// life ends. What they send is decided and committed to the store, and released effects are sent
+/// on them. Returns the store, and the result of the life.
 ///
-/// A link that has a place is served as by [`serve_links`], but for this. It has ten seconds to
-/// greet in, and is closed and counted where it doesn't. It ends where its input does, or by a
-/// fault; then its name and its place are free, its sender writes what waits, and gives up a peer
-/// that takes nothing for eight seconds. **A greeting with a name that has a link takes it over**:
-/// the older link is closed at once, and what waits for it is dropped, and counted. So is what
-/// finds no gateway of its name. What leaves on a link is for the name of that link, whoever had
-/// its place before. Who comes while all places are taken waits for one.
+/// A link that has a place is served as by [`serve_links`], with these differences. It has to greet
+/// within ten seconds; otherwise it is closed and counted. It ends when its input ends, or by a
+/// fault. Then its name and its place are free; its sender writes what waits, and gives up a peer
+/// that takes nothing for eight seconds. **A greeting with a name that already has a link takes the
+/// name over**: the older link is closed at once, and what waits for it is dropped and counted. An
+/// effect for a gateway without a link is also dropped and counted. What leaves on a link is for
+/// the name of that link, not for one that had its place before. A link that comes while all places
+/// are taken waits for one.
 ///
-/// What leaves for an application waits while it has no link, 1,024 lines at most, and goes on in
-/// its order on the next link that it has, but for what was being written when a link failed. What
-/// waits for an application that has no link at the end is dropped, and counted.
+/// Lines for an application wait while it has no link, at most 1,024. They go on in order on its
+/// next link, except for those that were being written when a link failed. What waits for an
+/// application that has no link at the end is dropped and counted.
 ///
-/// Operators come in by a listener of their own, eight at a time, and say an [`Order`] each.
-/// One who says nothing for two seconds is given up. What they are told of the disk stands in
-/// `times`.
+/// Operators come in through a listener of their own, eight at a time, and send one [`Order`] each.
+/// The connection of an operator who sends nothing for two seconds is closed. What operators see of
+/// the disk is in `times`.
 ///
-/// `on_begun` is called once every thread of the life runs. If a thread can't be started it isn't
+/// `on_begun` is called when every thread of the life runs. If a thread can't be started, it isn't
 /// called, and the life is refused with `OutOfMemory`.
 pub fn serve_on<
     'x,
@@ -199,7 +201,7 @@ fn begin<R: Threads + Wait + Sync, D: Disk + Drop, G: Gate + Sync, C: LifeClock 
     serve_life::<Brand, R, D, G, C, N>(context, store, places, core, made, taken, on_begun)
 }
 
-// A life that isn't begun.
+// The result of a life that isn't begun.
 fn failed<D: Disk>(alloc: Global, store: Store<D>, fault: ServeFault) -> ServedLife<D>
     requires { IsOfBeginning fault }
     ensures store { result.store ≡ store }
@@ -213,7 +215,7 @@ fn failed<D: Disk>(alloc: Global, store: Store<D>, fault: ServeFault) -> ServedL
     }
 }
 
-// The links of a life, and where links and operators come in.
+// The links of a life, and the sockets for links and operators.
 #[derive(Drop)]
 struct Places {
     links: Vec<Link>,
@@ -282,7 +284,7 @@ fn serve_life<
     served_life(context.alloc, server, all, end)
 }
 
-// What came of a life that has ended.
+// The result of a life that has ended.
 fn served_life<B: Books + Send + Sync, D: Disk + Drop>(
     alloc: Global,
     server: LiveServer<B>,
@@ -330,8 +332,8 @@ struct Equipment<B: Books> {
 }
 
 impl<B: Books> Equipment<B> {
-    // Nobody is linked yet. Where links come and go, applications have rings of their own, behind
-    // those of the links.
+    // No links yet. If links come and go, applications have rings of their own, after those of the
+    // links.
     fn new(alloc: Global, shared: &mut Shared<B>, places: &Places) -> Result<Self, Refusal>
         requires { shared.old.left ≡ length places.now.links.items + 1 }
         ensures rings { IfOk result (λ equipment. equipment.directory.first_ring
@@ -354,7 +356,7 @@ impl<B: Books> Equipment<B> {
     }
 }
 
-// Each behind a lock, in the same order. Refused with `OutOfMemory` for want of memory.
+// Each inlet behind a lock, in the same order. Refused with `OutOfMemory` if memory runs out.
 fn waiting_lines(alloc: Global, inlets: Vec<Inlet>) -> Result<Vec<WaitingLines>, Refusal>
     ensures lines { IfOk result (λ lines. length lines.items ≡ length inlets.items) }
     ensures refused { IfErr result (λ e. e ≡ OutOfMemory) }
@@ -366,8 +368,8 @@ fn waiting_lines(alloc: Global, inlets: Vec<Inlet>) -> Result<Vec<WaitingLines>,
     Ok(lines)
 }
 
-// A seat that didn't come back is of a thread that was never started, for want of memory. Of a life
-// whose decisions weren't all taken nothing is told but that.
+// The report. If a seat didn't come back, its thread was never started, since memory ran out. If
+// not all decisions of a life were taken, there is no report, but `OutOfStep`.
 fn report<B: Books>(
     alloc: Global,
     shared: Shared<B>,

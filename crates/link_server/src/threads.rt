@@ -6,7 +6,7 @@ use std::alloc::Global;
 use std::sync::Wait;
 use std::thread::{Builder, JoinHandle, Scope, Threads};
 
-/// Starts a worker; `None` where that can't be.
+/// Starts a worker; `None` if that fails.
 pub(crate) fn start_worker<
     'x,
     E,
@@ -28,7 +28,7 @@ pub(crate) fn start_worker<
         .ok()
 }
 
-/// Starts a sender; `None` where that can't be.
+/// Starts a sender; `None` if that fails.
 pub(crate) fn start_sender<'x, E, R: Wait + Sync>(
     alloc: Global,
     scope: &Scope<'x, E>,
@@ -45,7 +45,7 @@ pub(crate) fn start_sender<'x, E, R: Wait + Sync>(
         .ok()
 }
 
-/// Starts a worker that takes one link after another; `None` where that can't be.
+/// Starts a worker that takes one link after another; `None` if that fails.
 pub(crate) fn start_host<
     'x,
     E,
@@ -63,7 +63,7 @@ pub(crate) fn start_host<
         .ok()
 }
 
-/// Starts the closer; `None` where that can't be.
+/// Starts the closer; `None` if that fails.
 pub(crate) fn start_closer<
     'x,
     E,
@@ -84,7 +84,7 @@ pub(crate) fn start_closer<
         .ok()
 }
 
-/// Starts an attendant; `None` where that can't be.
+/// Starts an attendant; `None` if that fails.
 pub(crate) fn start_attendant<
     'x,
     E,

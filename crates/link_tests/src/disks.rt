@@ -6,8 +6,8 @@ ghost use Rattle.disk.specs.Outlook.Outlook.{Unknown};
 use crate::gates::Marks;
 use disk::{DeviceFailed, Disk, MemDisk};
 
-/// A disk in memory that counts its syncs. The first one behind that of the opening waits until two
-/// workers have come to their third calls, and fails where they don't in time.
+/// A disk in memory that counts its syncs. The first sync after that of the opening waits until two
+/// workers have come to their third calls; it fails if they don't come in time.
 #[derive(Drop)]
 pub struct HeldDisk<'x> {
     disk: MemDisk,
@@ -30,7 +30,7 @@ impl<'x> HeldDisk<'x> {
         self.syncs
     }
 
-    // Whether a sync may go on. (The disk is given up long before its failures have 64 bits.)
+    // Whether a sync may go on. (The disk is dropped long before its failures exceed 64 bits.)
     fn hold(&mut self) -> Result<(), DeviceFailed>
         ensures cause { HasCause self.old.failures self.new.failures result }
         ensures disk { self.new.disk ≡ self.old.disk }
@@ -53,7 +53,7 @@ impl<'x> Disk for HeldDisk<'x> {
 
     ghost outlook = { λ _. Unknown };
 
-    // What it holds is of no interest here.
+    // The contents don't matter here.
     ghost honest = { ⊥ };
 
     fn len(&self) -> u64 {

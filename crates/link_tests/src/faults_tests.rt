@@ -17,8 +17,8 @@ const SAID: &str = "0002 0203 0051 03 |provision 1112131415161718 01020304050607
      0009 00 00000000000000B1 002D 01 00000000000000B1 33BE27A0 05 FFEC FFA1 0000C350 \
      000807060504030201181716151413121101009E7419CE;";
 
-// The nth call of a disk fails, and the links stay open until the life closes them: how it ends,
-// how many bytes are heard, and the number that the disk holds afterwards.
+// The nth call of a disk fails, and the links stay open until the life closes them. Returns how it
+// ends, how many bytes the clients receive, and the number that the disk holds afterwards.
 fn fail<R: Net<Listener = TcpListener, Stream = TcpStream> + Threads + Wait + Sync>(
     rt: &R,
     alloc: Global,

@@ -7,10 +7,10 @@ use std::sync::atomic::{AtomicBool, AtomicU64};
 use std::thread;
 use std::thread::Parker;
 
-// How often a thread looks again before it gives up.
+// How often a thread checks again before it gives up.
 const TURNS: u32 = 1_000_000;
 
-/// A clock that stands still, so that windows are closed by the last tick alone.
+/// A clock that stands still, so that only the last tick closes windows.
 #[derive(Clone, Copy)]
 pub struct StandingClock;
 
@@ -50,7 +50,8 @@ impl Marks {
         }
     }
 
-    /// Holds a sync until both workers have come to their third calls. Whether they did in time.
+    /// Holds a sync until both workers have come to their third calls. Returns whether they came in
+    /// time.
     pub fn hold_sync(&self) -> bool {
         self.held.store(true, SeqCst);
         wait(|| self.first.load(SeqCst) >= 3 && self.second.load(SeqCst) >= 3)
@@ -60,13 +61,13 @@ impl Marks {
         self.late.store(true, SeqCst);
     }
 
-    /// Whether a worker was let go because its turns had run out.
+    /// Whether a worker was released because its turns had run out.
     pub fn is_late(&self) -> bool {
         self.late.load(SeqCst)
     }
 }
 
-// Whether it becomes so in time.
+// Waits for a condition. Returns whether it became true in time.
 fn wait<F: Fn() -> bool>(is_so: F) -> bool
     requires { F.IsAlwaysCallable is_so }
 {
@@ -94,8 +95,8 @@ impl<'x> Gate for HoldBoth<'x> {
     }
 }
 
-/// Holds the second worker before its first call until the first one has come to its second, and
-/// this one there until the second one has come to its third.
+/// Holds the second worker before its first call until the first worker has come to its second
+/// call. Holds the first worker there until the second one has come to its third call.
 #[derive(Drop)]
 pub struct HoldFirst<'x> {
     pub marks: &'x Marks,

@@ -11,7 +11,7 @@ use std::sync::Wait;
 use std::thread::Threads;
 use store::open;
 
-// Two applications ask for three things each, and the third is a device that is there.
+// Two applications ask for three things each; the third names a device that already exists.
 const HELD: &str = "0002 0201 \
      0051 03 |provision 0000000000000001 0102030405060708 2B7E151628AED2A6ABF7158809CF4F3C 0 1|\
      0051 03 |provision 0000000000000002 0102030405060708 2B7E151628AED2A6ABF7158809CF4F3C 0 1|\
@@ -21,10 +21,10 @@ const HELD: &str = "0002 0201 \
      0051 03 |provision 0000000000000004 0102030405060708 2B7E151628AED2A6ABF7158809CF4F3C 0 1|\
      0051 03 |provision 0000000000000004 0102030405060708 2B7E151628AED2A6ABF7158809CF4F3C 0 1|";
 
-// The first sync is held until each of two workers has made a second decision, and come to its
-// third call: how many decisions are made, and how many syncs. All that was decided meanwhile is
-// one batch behind the first, with which it shares a sync: they have three, and one more is of the
-// opening.
+// The first sync is held until each of two workers has made a second decision and come to its third
+// call. Returns how many decisions and how many syncs are made. All that was decided meanwhile is
+// one batch after the first, which shares a sync with it: they need three syncs, and the opening
+// one more.
 fn hold_sync<R: Net<Listener = TcpListener, Stream = TcpStream> + Threads + Wait + Sync>(
     rt: &R,
     alloc: Global,
@@ -43,7 +43,8 @@ fn workers_decide_while_a_sync_is_held(rt: HostRuntime) {
     assert!(rt; hold_sync(&rt, rt.alloc()) == Ok((4, 4)));
 }
 
-// Two applications have a device each, and queue an item for it. The second one asks once more.
+// Two applications have a device each, and queue an item for it. The second application makes one
+// more request.
 const QUEUED: &str = "0002 0201 \
      0051 03 |provision 0000000000000001 0102030405060708 2B7E151628AED2A6ABF7158809CF4F3C 0 1|\
      0021 03 |queue 0000000000000001 11 7 u 0A|;\
@@ -52,7 +53,7 @@ const QUEUED: &str = "0002 0201 \
      0023 03 |queue 0000000000000002 22 8 c 0B0C|\
      0018 03 |mac 0000000000000002 06|";
 
-// Whether a device has this item alone.
+// Whether a device has this item, and no other.
 fn has_item(device: &Device, tag: u32, port: u64, confirmed: bool, bytes: &[u8]) -> bool {
     match device.items.as_slice() {
         [item] => {
@@ -86,9 +87,9 @@ fn has_items(devices: &[Device]) -> bool {
     same
 }
 
-// The first worker is held before its second call until the second one has come to its third:
-// whether that was in time, whether each application hears the answers to what it asked, and each
-// device has its item; how many decisions each worker made, and the closer.
+// The first worker is held before its second call until the second one has come to its third.
+// Returns whether that was in time, whether each application receives the answers to its requests,
+// and whether each device has its item; and how many decisions each worker and the closer made.
 fn hold_first<R: Net<Listener = TcpListener, Stream = TcpStream> + Threads + Wait + Sync>(
     rt: &R,
     alloc: Global,

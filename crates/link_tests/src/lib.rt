@@ -1,5 +1,5 @@
-//! Tests of a server's life over loopback sockets: what clients say and hear, and what came of it.
-//! Both ends stand in one process, and each client says all it has to say before the life begins.
+//! Tests of a server's life over loopback sockets: what clients send and receive, and the result.
+//! Both ends are in one process, and each client sends everything before the life begins.
 #![tactic(auto)]
 
 #[cfg(test)]

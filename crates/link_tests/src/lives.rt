@@ -31,14 +31,14 @@ pub fn of_socket<T>(res: io::Result<T>) -> Result<T, Refusal> {
     res.map_err(|_| Refusal::DeviceFailed)
 }
 
-/// A listener, and the clients that have connected to it, in this order.
+/// A listener, and the clients that have connected to it, in order.
 #[derive(Drop)]
 pub struct Hall {
     listener: TcpListener,
     clients: Vec<TcpStream>,
 }
 
-/// Clients that have said all this, a text each, and say nothing more where `ends` is true.
+/// Clients that have sent all this, one text each, and send nothing more if `ends` is true.
 pub fn clients<R: Net<Listener = TcpListener, Stream = TcpStream>>(
     rt: &R,
     alloc: Global,
@@ -59,7 +59,7 @@ pub fn clients<R: Net<Listener = TcpListener, Stream = TcpStream>>(
     Ok(Hall { listener, clients })
 }
 
-/// Serves these clients, and gives them back.
+/// Serves these clients, and returns them.
 pub fn serve<R: Threads + Wait + Sync, D: Disk + Drop, G: Gate + Sync, C: LifeClock + Sync>(
     rt: &R,
     alloc: Global,
@@ -74,7 +74,7 @@ pub fn serve<R: Threads + Wait + Sync, D: Disk + Drop, G: Gate + Sync, C: LifeCl
     (served, clients)
 }
 
-/// All that a client hears, up to the end of its link, however it ends.
+/// All that a client receives, up to the end of its link, however it ends.
 pub fn heard(alloc: Global, client: &mut TcpStream) -> Result<Vec<u8>, Refusal> {
     let mut all = Vec::new(alloc);
     let mut buffer = [0; 256];
@@ -87,7 +87,7 @@ pub fn heard(alloc: Global, client: &mut TcpStream) -> Result<Vec<u8>, Refusal> 
     Ok(all)
 }
 
-/// Whether each of these clients hears what is wanted of it, and nothing more.
+/// Whether each of these clients receives exactly what is wanted.
 pub fn hears(alloc: Global, links: Vec<TcpStream>, wanted: &Vec<Vec<u8>>) -> Result<bool, Refusal> {
     let mut same = links.len() == wanted.len();
     for (link, wanted) in links.into_iter().zip(wanted) {
@@ -97,7 +97,7 @@ pub fn hears(alloc: Global, links: Vec<TcpStream>, wanted: &Vec<Vec<u8>>) -> Res
     Ok(same)
 }
 
-/// What each of several texts, parted by semicolons, stands for.
+/// The bytes of several texts, separated by semicolons.
 pub fn wires(alloc: Global, texts: &str) -> Result<Vec<Vec<u8>>, Refusal> {
     let mut all = Vec::new(alloc);
     for text in texts.split(';') {
@@ -106,7 +106,7 @@ pub fn wires(alloc: Global, texts: &str) -> Result<Vec<Vec<u8>>, Refusal> {
     Ok(all)
 }
 
-/// The refusal that a fault of serving is of. Of a listener at fault that is of a device.
+/// The refusal of a fault of serving. A listener's fault counts as a device failure.
 pub fn refusal_of(fault: ServeFault) -> Refusal {
     match fault {
         ServeFault::Listen => Refusal::DeviceFailed,

@@ -1,4 +1,4 @@
-// Links that come and go while a server goes on.
+// Links that come and go during a server's life.
 use crate::lives::{new_store, of_socket, refusal_of};
 use crate::wire::wire;
 use link_server::{
@@ -15,8 +15,8 @@ use std::sync::Wait;
 use std::thread::{Threads, join};
 use timed_disk::DiskTimes;
 
-// A gateway, an application, and what they say and hear. The frames were made by a device and a
-// network that are none of ours (examples/outside).
+// A gateway, an application, and what they send and receive. The frames were made by a device and a
+// network of another implementation (examples/outside).
 const GATEWAY: &str = "0009 00 00000000000000B1";
 
 const APPLICATION: &str = "0002 0203";
@@ -45,7 +45,7 @@ fn say(alloc: Global, link: &mut TcpStream, text: &str) -> Result<(), Refusal> {
     of_socket(link.write_all(wire(alloc, text)?.as_slice()))
 }
 
-// A link on which this is said first.
+// A link on which this is sent first.
 fn connect<R: Net<Stream = TcpStream>>(
     rt: &R,
     alloc: Global,
@@ -57,7 +57,7 @@ fn connect<R: Net<Stream = TcpStream>>(
     Ok(link)
 }
 
-// Whether this is heard next on a link.
+// Whether this is received next on a link.
 fn hears(alloc: Global, link: &mut TcpStream, text: &str) -> Result<bool, Refusal> {
     let wanted = wire(alloc, text)?;
     let mut heard = vec![in alloc; 0; wanted.len()]?;
@@ -65,12 +65,12 @@ fn hears(alloc: Global, link: &mut TcpStream, text: &str) -> Result<bool, Refusa
     Ok(heard.as_slice() == wanted.as_slice())
 }
 
-// Whether a link ends, and nothing more is heard on it.
+// Whether a link ends, and nothing more is received on it.
 fn ends(link: &mut TcpStream) -> bool {
     link.read(&mut [0; 1]).is_ok_and(|count| count == 0)
 }
 
-// An order is given; its answer is all that comes then.
+// Sends an order. Its answer is all that comes then.
 fn order<R: Net>(rt: &R, at: &net::SocketAddr, order: Order) -> Result<UnixStream, Refusal> {
     let mut stream = of_socket(UnixStream::connect_addr(rt, at))?;
     of_socket(stream.write_all(order.word().as_bytes()))?;
@@ -90,7 +90,7 @@ fn answer<R: Net>(
     Ok(text)
 }
 
-// Whether this is heard first.
+// Whether this is received first.
 fn starts(alloc: Global, stream: &UnixStream, text: &str) -> Result<bool, Refusal> {
     let mut stream = stream;
     let mut heard = vec![in alloc; 0; text.len()]?;
@@ -98,8 +98,8 @@ fn starts(alloc: Global, stream: &UnixStream, text: &str) -> Result<bool, Refusa
     Ok(heard.as_slice() == text.as_bytes())
 }
 
-// Whether the clients of a life heard what they should, what operators were told, and the link of
-// the one who told the life to end.
+// Whether the clients of a life received what they should, what operators were sent, and the link
+// of the operator who asked the life to end.
 #[derive(Drop)]
 struct Said {
     same: bool,
@@ -109,8 +109,8 @@ struct Said {
     stop: UnixStream,
 }
 
-// A gateway's link is taken over by its next one, and an application's ends and comes again, with
-// an uplink in between, and the join once more, which is refused. Then the life is told to end.
+// A gateway's link is taken over by its next one. An application's link ends and comes again, with
+// an uplink in between, and the join once more, which is refused. Then the life is asked to end.
 fn clients<R: Net<Listener = TcpListener, Stream = TcpStream>>(
     rt: &R,
     alloc: Global,
@@ -146,8 +146,7 @@ fn clients<R: Net<Listener = TcpListener, Stream = TcpStream>>(
     })
 }
 
-// What operators are told: how it goes, which devices there are, and what happens. The moments
-// vary.
+// What operators are sent: the counts, the devices, and the events. The moments vary.
 const STATUS: &[&str] = &[
     "places 4\n",
     "gateways 1\n",
@@ -177,12 +176,12 @@ const WATCHED: &[&str] = &[
     "refused 9 DevNonceUsed join 1112131415161718 1 00000000000000B1 868100000 5 -20 -95\n",
 ];
 
-// The first of these that a text lacks.
+// The first of these that is missing in a text.
 fn lacks<'a>(text: &str, wanted: &[&'a str]) -> Option<&'a str> {
     wanted.iter().copied().find(|it| !text.contains(*it))
 }
 
-// How often it was told that a life has begun.
+// How often `on_begun` was called.
 #[derive(Drop)]
 struct Begun(u64);
 
@@ -195,7 +194,7 @@ impl OnBegun for Begun {
 // How often a life had begun, and the counts of its report.
 type Counts = (u64, (u64, u64, u64, u64));
 
-// What a life of four places comes to: what was heard wrong, and its counts.
+// The result of a life of four places: what was received wrongly, and its counts.
 fn live<R>(rt: &R, alloc: Global) -> Result<(Option<&'static str>, Counts), Refusal>
 where
     R: Net<Listener = TcpListener, Stream = TcpStream> + Files + Clock + Threads + Wait + Sync,
@@ -233,7 +232,7 @@ where
     Ok((wrong(alloc, said?)?, (begun.0, counts)))
 }
 
-// The first thing that was heard wrong in a life, which is over.
+// The first thing that was received wrongly in a life, which is over.
 fn wrong(alloc: Global, said: Said) -> Result<Option<&'static str>, Refusal> {
     let Said {
         same,

@@ -1,4 +1,4 @@
-// Lives of which each byte is known.
+// Lives of which every byte is known.
 use crate::gates::StandingClock;
 use crate::lives::{clients, hears, new_store, refusal_of, serve, wires};
 use disk::MemDisk;
@@ -11,14 +11,14 @@ use std::sync::Wait;
 use std::thread::Threads;
 use store::Store;
 
-// What clients say, and what they hear, a text each; how many effects are dropped, how many links
-// are faulted, and how many decisions are made; and the list of the store afterwards. The lives
-// come one after another over one store.
+// What clients send, and what they receive, one text each; how many effects are dropped, how many
+// links are faulted, and how many decisions are made; and the list of the store afterwards. The
+// lives follow one another over one store.
 type Row = (&'static str, &'static str, (u64, u64, u64), &'static str);
 
-// A device is provisioned and joins; its uplink comes to a life in which its application isn't
-// linked; and what is no request, or is for another application's device, is refused. The frames
-// were made by a device and a network that are none of ours (examples/outside).
+// A device is provisioned and joins. Its uplink comes in a life in which its application has no
+// link. Lines that are no request, or are for another application's device, are refused. The frames
+// were made by a device and a network of another implementation (examples/outside).
 const ROWS: &[Row] = &[
     (
         "0002 0203 0051 03 |provision 1112131415161718 0102030405060708 \
@@ -64,7 +64,7 @@ fn live<R: Net<Listener = TcpListener, Stream = TcpStream> + Threads + Wait + Sy
     Ok((same && all && told.as_str() == list, store))
 }
 
-// The number of the first row that isn't so.
+// The number of the first row that is wrong.
 fn live_all<R: Net<Listener = TcpListener, Stream = TcpStream> + Threads + Wait + Sync>(
     rt: &R,
     alloc: Global,

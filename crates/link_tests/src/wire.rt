@@ -1,8 +1,8 @@
-// What is said on links, as texts.
+// The bytes of links, as texts.
 use lw_types::{Refusal, read_hex};
 use std::alloc::Global;
 
-/// The bytes that a text stands for: hex in words, and between bars text as it is.
+/// The bytes of a text: hex in words, and between bars text as it is.
 pub fn wire(alloc: Global, text: &str) -> Result<Vec<u8>, Refusal> {
     let mut bytes = Vec::new(alloc);
     let mut is_hex = true;

@@ -1,4 +1,4 @@
--- What becomes of the messages of a link.
+-- What happens to the messages of a link.
 use Rattle.std.specs.Prelude.{◌≡◌, ◌⊎◌, ◌∷◌, ◌++◌, ℕ, List, [], Option, Some, None}
 use Rattle.lw_types.specs.declared.refusal.Refusal.{Refusal}
 use Rattle.lw_types.specs.declared.refusal.Refusal.TheVariants.{BadMessage, OutOfMemory}
@@ -13,8 +13,8 @@ use Rattle.session_core.specs.Seats.{SeatState, HasMade}
 use Rattle.session_core.specs.declared.seat.CallKind.TheVariants.{Asked, Heard}
 use Rattle.session_core.specs.declared.turn.Turn.{Turn}
 
--- A request is handed in, and refused as its turn tells. A line that is none is refused, or one
--- that there is no memory for, and then nothing is handed in.
+-- A request is handed in, and refused as its turn says. A line that is no request is refused, and
+-- so is a line for which memory runs out; then nothing is handed in.
 abbrev pub IsAnswered : List ℕ → SeatState → SeatState → Option Refusal → Type 0
 IsAnswered line old new refused =
     (IsRequestLine line × ((moment : ℕ) × ((turn : Turn)
@@ -22,15 +22,16 @@ IsAnswered line old new refused =
     ⊎ ((new ≡ old) × ((refused ≡ Some OutOfMemory)
     ⊎ ((refused ≡ Some BadMessage) × ¬ (IsRequestLine line))))
 
--- a refusal, if there is one, came into the ring of whoever asked, or the ring is full
+-- a refusal, if there is one, was put into the ring of the application that asked, unless the ring
+-- is full
 abbrev pub IsTold : {A P : Type 0} → Option Refusal → Producer Refusal A P → Producer Refusal A P
     → Type 0
 IsTold None old new = new ≡ old
 IsTold (Some refusal) old new =
     (sent new ≡ sent old ++ refusal ∷ []) ⊎ ((sent new ≡ sent old) × (known_free new ≡ 0))
 
--- what a message of this peer does to its worker's seat and to the ring of refusals: a copy is
--- handed in, and a line is answered
+-- how a message of this peer changes its worker's seat and the ring of refusals: a copy is handed
+-- in, and a line is answered
 abbrev pub IsOneHeard : {A P : Type 0} → Option Peer → Message → SeatState → Producer Refusal A P
     → SeatState → Producer Refusal A P → Type 0
 IsOneHeard peer (Copy copy) seat told new_seat new_told =
@@ -40,7 +41,7 @@ IsOneHeard (Some (Application application)) (Line line) seat told new_seat new_t
     × IsTold refused told new_told)
 IsOneHeard peer message seat told new_seat new_told = (new_seat ≡ seat) × (new_told ≡ told)
 
--- messages are heard, one after another
+-- messages are handled, one after another
 abbrev pub AreHeard : {A P : Type 0} → Option Peer → List Message → SeatState
     → Producer Refusal A P → SeatState → Producer Refusal A P → Type 0
 AreHeard peer [] seat told new_seat new_told = (new_seat ≡ seat) × (new_told ≡ told)

@@ -1,4 +1,4 @@
--- As whom whoever is at the other end of a link is told of effects, and what becomes of that name.
+-- The recipient that a link's peer is for effects, and what happens to that name.
 use Rattle.std.specs.Prelude.{◌≡◌, ⊤}
 use Rattle.directory.specs.declared.names.HeldName.{HeldName}
 use Rattle.gateway_wire.specs.declared.recipient.Recipient.{Recipient}

@@ -1,4 +1,4 @@
-// Operators tell a life to end, and ask how it goes.
+// Attendants, which answer operators.
 ghost use Rattle.std.specs.Prelude.{◌≡◌, ◌≢◌, MatchOption};
 ghost use Rattle.server_links.specs.Orders.{order_word};
 
@@ -14,27 +14,27 @@ use std::sync::Wait;
 use std::time::Duration;
 use std::{io, str};
 
-/// What an operator is told who is to be told what happens, before all else.
+/// The first line sent to an operator who watches.
 pub const WATCHING: &str = "watching\n";
 
-/// What an operator is told who can't be told what happens, since so many are already.
+/// Sent when all places for watchers are taken.
 pub const BUSY: &str = "busy\n";
 
-// What stands behind the last line of how it goes, or of the devices: an empty line. An answer that
-// lacks it was cut off.
+// The empty line after the last line of the counts or of the devices. An answer without it was cut
+// off.
 const WHOLE: &str = "\n";
 
-// How long an operator may say nothing, or take nothing, in seconds.
+// How long an operator may send nothing, or read nothing, in seconds.
 const PATIENCE: u64 = 2;
 
 // How long one write to an operator who watches waits for room, in seconds.
 const WATCHER_WAIT: u64 = 1;
 
-// How long a look whether an operator who watches is still there waits, in milliseconds: as short
-// as a read may.
+// How long the check whether an operator is still connected waits, in milliseconds: the shortest
+// time that a read may wait.
 const LOOK_WAIT: u64 = 1;
 
-// How long until accepting is tried again where it failed, in seconds.
+// The pause after a failed accept, in seconds.
 const ACCEPT_PAUSE: u64 = 1;
 
 // The most bytes of an order, with its newline.
@@ -51,7 +51,7 @@ pub struct Attendant<'x, B: Books, R: Wait, G: Gate, C: LifeClock> {
 }
 
 impl<'x, B: Books, R: Wait, G: Gate, C: LifeClock> Attendant<'x, B, R, G, C> {
-    /// Attends to one operator after another, until the life is over.
+    /// Serves one operator after another, until the life is over.
     pub fn run(self) {
         for _ in self.context.rt.forever() {
             let accepted = self.control.listener.accept();
@@ -68,7 +68,8 @@ impl<'x, B: Books, R: Wait, G: Gate, C: LifeClock> Attendant<'x, B, R, G, C> {
         }
     }
 
-    // Whoever closes the control socket says so before what is shown is closed.
+    // Register the operator before serving it. Closing the control socket sets its flag before it
+    // closes the registered connections, so check the flag after registering.
     fn attend(&self, stream: UnixStream) {
         let Ok(shown) = stream.try_clone() else {
             return;
@@ -80,7 +81,7 @@ impl<'x, B: Books, R: Wait, G: Gate, C: LifeClock> Attendant<'x, B, R, G, C> {
         self.control.show(self.context.rt, self.number, None);
     }
 
-    // An operator who says nothing that is an order, or takes no answer, is given up.
+    // An operator whose line is no order, or who doesn't read the answer, is given up.
     fn obey(&self, stream: UnixStream) {
         let (rt, alloc) = (self.context.rt, self.context.alloc);
         match read_order(&stream) {
@@ -100,7 +101,7 @@ impl<'x, B: Books, R: Wait, G: Gate, C: LifeClock> Attendant<'x, B, R, G, C> {
         }
     }
 
-    // Whoever comes to watch gets a window, if one is free.
+    // Gives an operator who wants to watch a place, if one is free.
     fn receive(&self, stream: &UnixStream) {
         let watch = &self.control.watch;
         match watch.enter(self.context.rt) {
@@ -116,9 +117,9 @@ impl<'x, B: Books, R: Wait, G: Gate, C: LifeClock> Attendant<'x, B, R, G, C> {
         }
     }
 
-    // Tells what happens until the operator has gone or the life is over. What happened before the
-    // end is told then. While nothing happens the attendant looks each second whether the operator
-    // is still there, so that his window doesn't stay taken.
+    // Sends events until the operator has gone or the life is over. What happened before the end is
+    // still sent. While nothing happens, the attendant checks each second whether the operator is
+    // still connected, so that an operator who left frees the place.
     fn show_all(&self, stream: &UnixStream, watch: &Watch, window: usize) {
         if limit_waits(stream).is_err() {
             return;
@@ -140,8 +141,8 @@ impl<'x, B: Books, R: Wait, G: Gate, C: LifeClock> Attendant<'x, B, R, G, C> {
         }
     }
 
-    // Whether the operator took all of it. While one takes nothing the attendant waits, unless the
-    // life is over. Without memory nothing is told.
+    // Whether the operator took all lines. While the operator takes nothing, the attendant waits,
+    // unless the life is over. If memory runs out, nothing is sent.
     fn show(&self, stream: &UnixStream, waiting: Waiting) -> bool {
         let Ok(text) = waiting.into_text(self.context.alloc) else {
             return false;
@@ -163,14 +164,14 @@ impl<'x, B: Books, R: Wait, G: Gate, C: LifeClock> Attendant<'x, B, R, G, C> {
     }
 }
 
-// Limits how long the writes and the looks of an operator who watches wait.
+// Limits how long writes to an operator who watches, and reads from one, wait.
 fn limit_waits(stream: &UnixStream) -> io::Result<()> {
     stream.set_write_timeout(Some(Duration::from_secs(WATCHER_WAIT)))?;
     stream.set_read_timeout(Some(Duration::from_millis(LOOK_WAIT)))
 }
 
-// Whether an operator who watches has ended the connection, or says something more. At the end of
-// the life his input is ended from here: then he hasn't gone, and is told what is left.
+// Whether an operator who watches has closed the connection, or sends something more. At the end of
+// the life this side ends the input: then the operator hasn't gone, and is sent what is left.
 fn has_gone(stream: &UnixStream, signals: &Signals) -> bool {
     let mut stream = stream;
     let is_silent = match stream.read(&mut [0u8; 1]) {
@@ -180,7 +181,7 @@ fn has_gone(stream: &UnixStream, signals: &Signals) -> bool {
     !is_silent && !signals.is_closed()
 }
 
-// What an operator says, up to a newline.
+// The order of an operator, up to a newline.
 fn read_order(stream: &UnixStream) -> Option<Order> {
     let mut stream = stream;
     stream
@@ -213,7 +214,7 @@ fn order_of(word: &[u8]) -> Option<Order>
     }
 }
 
-// Without memory for an answer nothing is answered.
+// Sends the answer. If there was no memory for it, nothing is sent.
 fn tell_text(stream: &UnixStream, text: Result<String, Refusal>) {
     if let Ok(text) = text
         && send_text(stream, text.as_str()).is_ok()

@@ -1,4 +1,4 @@
-// The closer closes the windows that are due.
+// The closer, which closes the windows that are due.
 ghost use Rattle.std.specs.Prelude.{◌≡◌, ◌↔◌, IsTrue, None};
 ghost use Rattle.session_core.specs.Seats.{HasMade};
 ghost use Rattle.session_core.specs.declared.seat.CallKind.TheVariants.{Ticked};
@@ -11,14 +11,14 @@ use server_links::{Gate, LifeClock, moment_of, moved_on};
 use session_core::{Books, Moment, Seat, Sessions};
 use std::sync::Wait;
 
-// How long until memory is asked for again, in milliseconds.
+// The pause before memory is asked for again, in milliseconds.
 const PAUSE: u64 = 10;
 
-// How often it is asked for at the end, so for a second.
+// How often memory is asked for at the end: for a second in all.
 const LAST_TRIES: u64 = 100;
 
-// How long lies between two looks at least, in milliseconds. While many frames come, those that are
-// decided meanwhile are committed and sent together.
+// The least time between two turns, in milliseconds. While many frames come, those that are decided
+// in this time are committed and sent together.
 const GATHER: u64 = 2;
 
 /// The closer.
@@ -30,8 +30,8 @@ pub struct Closer<'x, B: Books, R: Wait, G: Gate, C: LifeClock> {
 }
 
 impl<'x, B: Books, R: Wait, G: Gate, C: LifeClock> Closer<'x, B, R, G, C> {
-    /// Closes windows until no link says anything more, and then all that are left. Gives the seat
-    /// back.
+    /// Closes windows until no link hands in anything more, and then all that are left. Returns the
+    /// seat.
     pub fn run(self) -> Seat<B> {
         let mut closer = self;
         let mut next = moment_of(0);
@@ -53,9 +53,9 @@ impl<'x, B: Books, R: Wait, G: Gate, C: LifeClock> Closer<'x, B, R, G, C> {
         closer.seat
     }
 
-    // Until the oldest window is due, and `next` is there; where there is none, until one opens, or
-    // a frame is decided by another thread. The flag is set before the looks, so that whoever opens
-    // or decides behind a look finds it set, and rings.
+    // Waits until the oldest window is due and `next` has come. If there is no window, waits until
+    // one opens or until another thread decides a frame. The flag is set before the checks, so a
+    // thread that opens a window or decides a frame after a check finds the flag set, and rings.
     fn wait_for_window(&self, next: Moment) {
         let signals = &self.server.signals;
         signals.set_idle();
@@ -71,8 +71,8 @@ impl<'x, B: Books, R: Wait, G: Gate, C: LifeClock> Closer<'x, B, R, G, C> {
         }
     }
 
-    // Closes all windows that are left. For want of memory it is tried again; those for which none
-    // is there in time are given up.
+    // Closes all windows that are left. If memory runs out, it tries again; windows for which there
+    // is no memory in time are given up.
     fn close_all(&mut self) {
         let last = self.server.sessions.effective_time(self.context.rt);
         for _ in 0..LAST_TRIES {
@@ -83,7 +83,7 @@ impl<'x, B: Books, R: Wait, G: Gate, C: LifeClock> Closer<'x, B, R, G, C> {
         }
     }
 
-    // Until memory is asked for again.
+    // Waits until memory is to be asked for again.
     fn pause(&self) {
         let until = moved_on(self.context.clock.now(), PAUSE);
         self.context
@@ -91,7 +91,7 @@ impl<'x, B: Books, R: Wait, G: Gate, C: LifeClock> Closer<'x, B, R, G, C> {
             .wait(self.context.rt, &self.server.signals.opened, until);
     }
 
-    // Whether all windows that were due are closed: for want of memory some are not.
+    // Whether all windows that were due are closed; if memory ran out, some aren't.
     fn tick(&mut self, moment: Moment) -> bool
         ensures ticked { (turn : Turn) × (HasMade self.old.seat self.new.seat moment Ticked turn
             × (IsTrue result ↔ (turn.refused ≡ None))) }

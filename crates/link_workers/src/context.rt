@@ -1,16 +1,16 @@
-// What a life is given from outside.
+// What a life gets from its caller.
 use server_links::{Gate, LifeClock};
 use std::alloc::Global;
 use std::sync::Wait;
 use timed_disk::DiskTimes;
 
-/// The system and its memory, and the gate and the clock, in whose places a test has its own.
+/// The system and its memory, and the gate and the clock, which a test replaces by its own.
 #[derive(Drop)]
 pub struct Context<'x, R: Wait, G: Gate, C: LifeClock> {
     pub rt: &'x R,
     pub alloc: Global,
     pub gate: &'x G,
     pub clock: &'x C,
-    // What operators are told of the disk, where there are any.
+    // What operators see of the disk, if there are operators.
     pub times: Option<&'x DiskTimes>,
 }

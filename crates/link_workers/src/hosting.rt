@@ -1,4 +1,4 @@
-// A worker of a life whose links come and go takes one link after another.
+// The worker of a life whose links come and go, which takes one link after another.
 ghost use Rattle.std.specs.Prelude.{◌≡◌, ◌-◌, IfSome, IsTrue, Some, max, option_map};
 ghost use Rattle.directory.specs.Linked.{IsHeld};
 ghost use Rattle.link_workers.specs.Named.{IsFarewell, peer_name};
@@ -21,25 +21,26 @@ use std::thread;
 use std::thread::{Builder, JoinHandle, Scope, Threads};
 use std::time::Duration;
 
-// How long a link may take until it has greeted, in milliseconds.
+// The time in which a link has to greet, in milliseconds.
 const GREETING_WAIT: u64 = 10_000;
 
-// How long a read waits once that time is over, in milliseconds: as short as a read may.
+// How long a read waits after that time is over, in milliseconds: the shortest time that a read may
+// wait.
 const SHORTEST_WAIT: u64 = 1;
 
-// How long until accepting is tried again where it failed, in seconds: the process has no
-// descriptors left, or no memory.
+// The pause after a failed accept, in seconds. An accept fails if the process has no descriptors
+// left, or no memory.
 const ACCEPT_PAUSE: u64 = 1;
 
-/// Whoever greeted on a link, and what came with the greeting.
+/// The name that greeted on a link, and what came with the greeting.
 #[derive(Drop)]
 struct Greeted {
     name: Recipient,
     fed: Fed,
 }
 
-/// What became of a link's name at the link's end: it was left, or it stays, since the life ends,
-/// for what is still to be sent.
+/// What happened to a link's name at the link's end: it was left; or, since the life ends, it
+/// stays, for what is still to be sent.
 #[derive(Clone, Copy)]
 enum Farewell {
     Left(LeftName),
@@ -53,7 +54,7 @@ pub struct Host<'x, B: Books, R: Wait, G: Gate, C: LifeClock> {
 }
 
 impl<'x, B: Books, R: Threads + Wait + Sync, G: Gate, C: LifeClock> Host<'x, B, R, G, C> {
-    /// Accepts links, and serves each to its end, until the life ends. Gives the seat back.
+    /// Accepts links, and serves each to its end, until the life ends. Returns the seat.
     pub fn run(self) -> Seat<B> {
         let mut host = self;
         let server = host.worker.server;
@@ -77,8 +78,9 @@ impl<'x, B: Books, R: Threads + Wait + Sync, G: Gate, C: LifeClock> Host<'x, B, 
         worker.link.bell.park_timeout(worker.context.rt, pause);
     }
 
-    // A link that can't be shown isn't served, since nobody could close it. Whoever ends the life
-    // says so before what is shown is closed.
+    // Register the link before serving it, so that shutdown can close it. Shutdown sets its flag
+    // before it closes links, so check the flag after registering. A link that can't be registered
+    // isn't served.
     fn serve(&mut self, stream: TcpStream) {
         let Ok(shown) = stream.try_clone() else {
             return;
@@ -102,8 +104,8 @@ impl<'x, B: Books, R: Threads + Wait + Sync, G: Gate, C: LifeClock> Host<'x, B, 
         let Some(greeted) = self.worker.hear_greeting(&stream) else {
             return;
         };
-        // each link has a ring of refusals of its own, so that none is told to the next one; where
-        // there is no memory for it, an older link of this name stays
+        // each link has its own ring of refusals, so that no refusal goes to the next link; if
+        // there is no memory for the ring, an older link of this name stays
         let Ok((refused, refusals)) = RingBuffer::new(context.alloc, PLACES) else {
             return;
         };
@@ -137,7 +139,7 @@ impl<'x, B: Books, R: Threads + Wait + Sync, G: Gate, C: LifeClock> Host<'x, B, 
         )
     }
 
-    // What was for the link that has ended is of no use to the next one.
+    // Drops what was for the link that has ended: it is of no use to the next one.
     fn drop_rest(&self, name: Recipient) {
         let rt = self.worker.context.rt;
         let mut lost = 0;
@@ -151,7 +153,7 @@ impl<'x, B: Books, R: Threads + Wait + Sync, G: Gate, C: LifeClock> Host<'x, B, 
     }
 }
 
-// A link has a sender for as long as it is read, and until what waits for it is written.
+// Gives a link a sender while it is read, and until what waits for it is written.
 fn hold<'s, 'x: 's, E, B: Books, R: Threads + Wait + Sync, G: Gate, C: LifeClock>(
     scope: &Scope<'s, E>,
     worker: &mut Worker<'x, B, R, G, C>,
@@ -180,7 +182,7 @@ fn hold<'s, 'x: 's, E, B: Books, R: Threads + Wait + Sync, G: Gate, C: LifeClock
     worker.end_link(held)
 }
 
-// Starts the sender of one link of a place; `None` where that can't be.
+// Starts the sender of one link of a place; `None` if that fails.
 fn start_host_sender<'x, E, R: Wait + Sync>(
     alloc: Global,
     scope: &Scope<'x, E>,
@@ -196,8 +198,8 @@ fn start_host_sender<'x, E, R: Wait + Sync>(
         .ok()
 }
 
-// How long a read waits until then, in milliseconds. After that moment it still takes what has
-// come: the process may have been stopped while a link greeted in time.
+// How long a read waits until this moment, in milliseconds. After this moment a read still takes
+// what has come: the link may have greeted in time while the process was stopped.
 fn wait_until(now: Moment, until: Moment) -> u64
     ensures { result ≡ max (until - now) 1 }
 {
@@ -205,8 +207,8 @@ fn wait_until(now: Moment, until: Moment) -> u64
 }
 
 impl<'x, B: Books, R: Wait, G: Gate, C: LifeClock> Worker<'x, B, R, G, C> {
-    // Reads until the peer has greeted. `None` if nothing more has come when its time is over, or
-    // if it says something else, or has gone.
+    // Reads until the peer has greeted. `None` if nothing more has come when its time is over, if
+    // it sends something else, or if it has gone.
     fn hear_greeting(&mut self, stream: &TcpStream) -> Option<Greeted>
         ensures named { IfSome result
             (λ greeted. option_map peer_name self.new.feeder.peer ≡ Some greeted.name) }
@@ -251,7 +253,7 @@ impl<'x, B: Books, R: Wait, G: Gate, C: LifeClock> Worker<'x, B, R, G, C> {
         None
     }
 
-    // Lets reads wait until then. Whether they can be so limited.
+    // Limits how long reads wait, up to this moment. Returns whether they can be limited.
     fn limit_wait(&self, stream: &TcpStream, until: Moment) -> bool {
         let wait = wait_until(self.context.clock.now(), until);
         stream
@@ -260,8 +262,9 @@ impl<'x, B: Books, R: Wait, G: Gate, C: LifeClock> Worker<'x, B, R, G, C> {
     }
 
     // Gives the link its name, and closes the link that had it. The directory stays locked
-    // meanwhile: the older link's worker leaves it before its place goes to the next link, which so
-    // isn't closed in place of the older one. One gateway too many is a fault of whoever greets.
+    // meanwhile. The older link's worker has to leave the directory before its place goes to the
+    // next link, so the next link isn't closed in place of the older one. If there is one gateway
+    // too many, its link counts as faulted.
     fn take_over(&self, name: &Recipient) -> Option<HeldName>
         ensures held { IfSome result (IsHeld name.now self.now.number) }
     {
@@ -282,7 +285,7 @@ impl<'x, B: Books, R: Wait, G: Gate, C: LifeClock> Worker<'x, B, R, G, C> {
         Some(held)
     }
 
-    // The link is read no further.
+    // Ends the reading of the link.
     fn end_link(&mut self, held: HeldName) -> Farewell
         ensures farewell { IsFarewell held result }
         ensures ended { IsTrue self.old.has_ended → IsTrue self.new.has_ended }

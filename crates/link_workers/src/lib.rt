@@ -1,6 +1,6 @@
-//! What the threads of a life do: workers read links, and hand in what is said on them, a closer
-//! closes the windows that are due, and attendants tell operators how it goes. Who starts them, and
-//! the flusher, stand in `link_server`, for which alone this is public.
+//! The threads of a life. Workers read links and hand in what is sent on them, a closer closes the
+//! windows that are due, and attendants answer operators. `link_server` starts them and has the
+//! flusher; this crate is public only for it.
 #![tactic(auto)]
 
 mod attending;

@@ -1,4 +1,4 @@
-// What a life does with its sessions, and what operators are told of it.
+// The life's calls of its sessions, and what operators see of them.
 ghost use Rattle.std.specs.Prelude.{◌≡◌, IsSome, IsTrue, option_map};
 ghost use Rattle.std.specs.Option.{option_copied};
 ghost use Rattle.session_core.specs.Seats.{HasMade};
@@ -13,7 +13,7 @@ use sights::Sight;
 use std::sync::Wait;
 
 impl<B: Books> LiveServer<B> {
-    /// Where operators watch from, in a life that has operators.
+    /// The places for operators who watch, in a life with operators.
     pub fn watch(&self) -> Option<&Watch>
         ensures { option_copied result ≡ option_map (λ control. control.watch) self.now.control }
     {
@@ -27,7 +27,7 @@ impl<B: Books> LiveServer<B> {
         self.watch().is_some_and(|watch| watch.is_watched())
     }
 
-    /// Tells the operators who watch.
+    /// Sends an event to the operators who watch.
     pub fn tell<R: Wait>(&self, rt: &R, sight: Sight) {
         if let Some(watch) = self.watch() {
             watch.tell(rt, sight);
@@ -82,8 +82,8 @@ impl<B: Books> LiveServer<B> {
         turn
     }
 
-    // Frames whose windows were closed at this moment: the last uplinks of their devices, and what
-    // was refused.
+    // Notes frames whose windows were closed at this moment: the last uplinks of their devices, and
+    // the refused ones.
     fn tell_closed<R: Wait>(&self, rt: &R, moment: Moment, closed: Vec<ClosedFrame>) {
         let Some(control) = &self.control else {
             return;

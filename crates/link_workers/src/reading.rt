@@ -1,4 +1,4 @@
-// A worker reads a link, and hands in what is said on it.
+// A worker, which reads a link and hands in what is sent on it.
 ghost use Rattle.std.specs.Prelude.{◌≡◌, ◌<◌, ◌+◌, ◌^◌, ◌↔◌, ◌++◌, ℕ, [], IfSome, IsTrue, List};
 ghost use Rattle.std.specs.Prelude.{None, Some, false, true};
 ghost use Rattle.link_messages.specs.Feeding.{Feeds, fault_in, new_feed};
@@ -25,7 +25,7 @@ use std::io::{ErrorKind, Read};
 use std::net::TcpStream;
 use std::sync::Wait;
 
-// How much is read at a time, in bytes.
+// The most bytes that are read at a time.
 pub(crate) const PIECE: usize = 8192;
 
 /// A link's worker.
@@ -34,27 +34,27 @@ pub struct Worker<'x, B: Books, R: Wait, G: Gate, C: LifeClock> {
     pub context: &'x Context<'x, R, G, C>,
     pub server: &'x LiveServer<B>,
     pub link: &'x Link,
-    // The place of its link among all, from 0.
+    // The number of its link's place, from 0.
     pub number: usize,
-    // The calls of the sessions so far.
+    // The number of calls of the sessions so far.
     pub calls: u64,
     pub feeder: Feeder,
     pub seat: Seat<B>,
     pub refusals: Producer<Refusal>,
-    // It hands nothing in any more.
+    // The worker hands nothing in any more.
     pub has_ended: bool,
 }
 
-/// What one read gave.
+/// The result of one read.
 pub(crate) enum Incoming {
     Bytes(usize),
     Nothing,
-    /// Nothing in the time that the socket was given.
+    /// Nothing came in the socket's time.
     Late,
     End,
 }
 
-/// Reads what has come, or waits. A link that was reset has ended as one that was closed.
+/// Reads what has come, or waits. A link that was reset counts as closed.
 pub(crate) fn read_some(stream: &TcpStream, buffer: &mut [u8]) -> Incoming {
     let mut stream = stream;
     match stream.read(buffer) {
@@ -85,7 +85,7 @@ fn has_decided(turn: &Turn) -> bool
     turn.from < turn.to
 }
 
-/// As whom a peer is told of effects.
+/// The recipient that a peer is for effects.
 pub(crate) fn recipient_of(peer: &Peer) -> Recipient
     ensures { result ≡ peer_name peer.now }
 {
@@ -96,7 +96,7 @@ pub(crate) fn recipient_of(peer: &Peer) -> Recipient
 }
 
 impl<'x, B: Books, R: Wait, G: Gate, C: LifeClock> Worker<'x, B, R, G, C> {
-    /// The worker of the link that has this place among all. Nothing has come on it yet.
+    /// The worker of the link with this place. Nothing has come on it yet.
     pub fn new(
         context: &'x Context<'x, R, G, C>,
         server: &'x LiveServer<B>,
@@ -130,7 +130,7 @@ impl<'x, B: Books, R: Wait, G: Gate, C: LifeClock> Worker<'x, B, R, G, C> {
         }
     }
 
-    /// Reads a link that stays until it says nothing more or may not, and gives the seat back.
+    /// Reads a link that stays until it sends nothing more or may not go on, and returns the seat.
     pub fn run(self) -> Seat<B> {
         let mut worker = self;
         let link = worker.link;
@@ -141,7 +141,7 @@ impl<'x, B: Books, R: Wait, G: Gate, C: LifeClock> Worker<'x, B, R, G, C> {
         worker.seat
     }
 
-    /// The worker hands nothing in any more.
+    /// Says, once, that the worker hands nothing in any more.
     pub(crate) fn end_input(&mut self)
         ensures { self.new ≡ record self.old { has_ended = true } }
     {
@@ -151,7 +151,7 @@ impl<'x, B: Books, R: Wait, G: Gate, C: LifeClock> Worker<'x, B, R, G, C> {
         }
     }
 
-    /// Reads a link until it says nothing more or may not.
+    /// Reads a link until it sends nothing more or may not go on.
     pub(crate) fn read(&mut self, stream: &TcpStream) {
         let mut buffer = [0u8; PIECE];
         for _ in self.context.rt.forever() {
@@ -171,12 +171,12 @@ impl<'x, B: Books, R: Wait, G: Gate, C: LifeClock> Worker<'x, B, R, G, C> {
         }
     }
 
-    // Whether the link was closed from here: what came before that is of no use any more.
+    // Whether this side closed the link: what came before that is no longer of use.
     fn is_closed(&self) -> bool {
         self.link.is_taken() || self.server.signals.is_stopped()
     }
 
-    /// The input has ended: inside a frame, that is a fault, but where it was ended from here.
+    /// The input has ended. Inside a frame that is a fault, unless this side ended the input.
     pub(crate) fn end(&self) {
         let is_cut = self.link.is_taken() || self.server.signals.is_ending();
         if self.feeder.end().is_err() && !is_cut {
@@ -184,14 +184,14 @@ impl<'x, B: Books, R: Wait, G: Gate, C: LifeClock> Worker<'x, B, R, G, C> {
         }
     }
 
-    /// The link is read no further because of what it said.
+    /// Counts the link as faulted: it is read no further because of what it sent.
     pub(crate) fn count_fault(&self) {
         self.server.signals.count_fault();
         let name = self.feeder.peer().map(|peer| recipient_of(&peer));
         self.server.tell(self.context.rt, Sight::Faulted(name));
     }
 
-    // Whether the link is read on. Without memory it isn't, which is no fault of its own.
+    // Whether the link is read on. Without memory it isn't, but that doesn't count as its fault.
     fn hear_piece(&mut self, piece: &[u8]) -> bool
         ensures heard { IsTrue result → (messages : List Message)
             × (Feeds self.old.feeder piece.now messages self.new.feeder
@@ -211,7 +211,7 @@ impl<'x, B: Books, R: Wait, G: Gate, C: LifeClock> Worker<'x, B, R, G, C> {
         }
     }
 
-    /// Hears messages, and counts the fault behind them. Whether the link is read on.
+    /// Handles messages, and counts the fault after them. Returns whether the link is read on.
     pub(crate) fn hear_all(&mut self, fed: Fed) -> bool
         ensures fault { IsTrue result → fed.fault ≡ None }
         ensures heard { (heard : List Message) × ((left : List Message)
@@ -233,7 +233,7 @@ impl<'x, B: Books, R: Wait, G: Gate, C: LifeClock> Worker<'x, B, R, G, C> {
         fault.is_none()
     }
 
-    // Whether the link is read on.
+    // Handles a message. Returns whether the link is read on.
     fn hear(&mut self, message: Message) -> bool
         ensures heard { IsOneHeard self.old.feeder.peer message self.old.seat self.old.refusals
             self.new.seat self.new.refusals }
@@ -253,8 +253,8 @@ impl<'x, B: Books, R: Wait, G: Gate, C: LifeClock> Worker<'x, B, R, G, C> {
         }
     }
 
-    // A name that is taken is a fault of whoever greets with it. Where links come and go it was
-    // taken over before, if it could be.
+    // A peer that greets with a name that is taken is at fault. If links come and go, the name was
+    // taken over before, if that was possible.
     fn greet(&self, peer: &Peer) -> bool {
         if self.server.door.is_some() {
             return true;
@@ -271,7 +271,7 @@ impl<'x, B: Books, R: Wait, G: Gate, C: LifeClock> Worker<'x, B, R, G, C> {
         is_new
     }
 
-    // Where it is refused, operators who watch are told, and nobody else.
+    // If the copy is refused, only the operators who watch learn of it.
     fn hear_copy(&mut self, copy: FrameCopy)
         ensures counted { self.old.calls + 1 < 2 ^ 64 → self.new.calls ≡ self.old.calls + 1 }
         ensures heard { (moment : ℕ) × ((turn : Turn)
@@ -300,7 +300,7 @@ impl<'x, B: Books, R: Wait, G: Gate, C: LifeClock> Worker<'x, B, R, G, C> {
         self.server.signals.tell_opened();
     }
 
-    // An application asks, and is told a refusal.
+    // Answers an application's request: a refusal goes to the application.
     fn hear_line(&mut self, line: &Line)
         ensures gateway { (gateway : Eui) → self.old.feeder.peer ≡ Some (peers.Gateway gateway)
             → self.new ≡ self.old }
@@ -316,7 +316,7 @@ impl<'x, B: Books, R: Wait, G: Gate, C: LifeClock> Worker<'x, B, R, G, C> {
         self.tell_asker(refused);
     }
 
-    // Why a line is refused, if it is.
+    // Handles a line. Returns why it is refused, if it is.
     fn answer(&mut self, application: Application, line: &Line) -> Option<Refusal>
         ensures answered { IsAnswered line.now self.old.seat self.new.seat result }
         ensures same { self.new ≡ record self.old

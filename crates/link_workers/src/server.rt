@@ -11,18 +11,20 @@ use session_core::{Books, Shared};
 use std::net::TcpStream;
 use std::sync::{Mutex, Wait};
 
-/// The links, what stands behind a lock, and the signals. No thread holds both locks at once, nor
-/// one of them while it reads, writes or syncs. Behind the directory's a link that loses its name
-/// is closed, which takes the locks of its socket and of those who watch, and nothing else does.
+/// The links, the data behind locks, and the signals. No thread holds both locks at once, nor one
+/// of them while it reads, writes or syncs. While the directory is locked, a greeting closes an
+/// older link of its name, and sends an event to the operators who watch. This takes the locks of
+/// that link's socket and of the watchers' places; nothing else takes a lock while the directory is
+/// locked.
 #[derive(Drop)]
 pub struct LiveServer<B: Books> {
     pub links: Vec<Link>,
-    // Where links and operators come in; none in a life of links that stay.
+    // The sockets for links and operators; none in a life whose links stay.
     pub door: Option<Door>,
     pub control: Option<ControlSocket>,
     pub sessions: Mutex<Shared<B>>,
     pub directory: Mutex<Directory>,
-    // For each application, what waits for it; none in a life of links that stay.
+    // For each application, the lines that wait for it; none in a life whose links stay.
     pub lines: Vec<WaitingLines>,
     pub signals: Signals,
 }
@@ -37,8 +39,8 @@ impl<B: Books> LiveServer<B> {
         }
     }
 
-    /// Ends the inputs of the links, behind what has come, and lets nobody in any more. Each thread
-    /// that looks from here on sees that the life is ending.
+    /// Ends the inputs of the links, after what has come, and accepts no more links. A thread that
+    /// checks after this sees that the life is ending.
     pub(crate) fn end<R: Wait>(&self, rt: &R) {
         self.signals.set_ending();
         self.shut_door();
@@ -47,7 +49,7 @@ impl<B: Books> LiveServer<B> {
         }
     }
 
-    /// What waits for an application, where applications have rings of their own.
+    /// The lines that wait for an application, if applications have rings of their own.
     pub(crate) fn lines_of(&self, name: &Recipient) -> Option<&WaitingLines>
         ensures gateway { (gateway : Eui) → name.now ≡ names.Gateway gateway → result ≡ None }
         ensures application { (application : ℕ) → name.now ≡ names.Application application
@@ -59,7 +61,7 @@ impl<B: Books> LiveServer<B> {
         }
     }
 
-    /// No link takes anything more: what waits for applications is lost.
+    /// Drops the lines that wait for applications, since no link takes anything more.
     pub fn drop_lines<R: Wait>(&self, rt: &R) {
         for lines in &self.lines {
             if let Some(inlet) = lines.lock(rt).as_mut() {
@@ -68,7 +70,7 @@ impl<B: Books> LiveServer<B> {
         }
     }
 
-    /// Operators are attended to no longer.
+    /// Says that operators are no longer served.
     pub fn close<R: Wait>(&self, rt: &R) {
         self.signals.close();
         if let Some(control) = &self.control {
@@ -76,7 +78,7 @@ impl<B: Books> LiveServer<B> {
         }
     }
 
-    /// The next link that comes in; `None` where it fails, or nobody comes in any more.
+    /// The next link that comes in; `None` if accepting fails, or if no more links are accepted.
     pub(crate) fn accept(&self) -> Option<TcpStream>
         ensures { IsSome result → IsSome self.now.door }
     {
@@ -89,7 +91,7 @@ impl<B: Books> LiveServer<B> {
         }
     }
 
-    /// The senders look at their rings again.
+    /// Wakes the senders to check their rings again.
     pub fn ring_senders(&self) {
         for link in &self.links {
             link.bell.unpark();

@@ -1,4 +1,4 @@
-// How a life goes, as an operator reads it.
+// The counts of a life, as an operator reads them.
 ghost use Rattle.std.specs.Prelude.{◌≡◌, ◌++◌, [], IfErr, IsErr, IsOk, MatchResult};
 ghost use Rattle.std.specs.List.{flat_map};
 ghost use Rattle.std.specs.String.{string_bytes};
@@ -14,7 +14,7 @@ use std::net::SocketAddr;
 use std::sync::Wait;
 use timed_disk::DiskTimes;
 
-// Lines of a text. Where there is no memory for one of them, that is answered once, at the end.
+// The lines of a text. If memory runs out for one of them, the error is returned once, at the end.
 #[derive(Drop)]
 struct StatusLines {
     text: String,
@@ -77,10 +77,10 @@ impl StatusLines {
     }
 }
 
-/// Lines of a name and a value: where links come in, how many there may be and are, how many of
-/// them are gateways and applications, what the sessions have, what was counted in this life and of
-/// the disk, and for each gateway that is linked the moment of the last copy that came on its link.
-/// Refused with `OutOfMemory` for want of memory.
+/// Lines of a name and a value: the address for links; how many links there may be, and are; how
+/// many of these are gateways and applications; the numbers of the sessions; the counts of this
+/// life and of the disk; and for each linked gateway the moment of the last copy on its link.
+/// Refused with `OutOfMemory` if memory runs out.
 pub(crate) fn status_text<B: Books, R: Wait>(
     rt: &R,
     alloc: Global,
@@ -153,8 +153,8 @@ fn add_last_copies<B: Books, R: Wait>(rt: &R, server: &LiveServer<B>, lines: &mu
     }
 }
 
-/// The list of the devices as the decisions so far leave them, durable or not, with how each was
-/// heard last. Refused with `OutOfMemory` for want of memory.
+/// The list of the devices after the decisions so far, durable or not, and how each device was last
+/// heard. Refused with `OutOfMemory` if memory runs out.
 pub(crate) fn devices_text<B: Books, R: Wait>(
     rt: &R,
     alloc: Global,

@@ -1,6 +1,6 @@
-//! `lns-sim`: reads a script of steps from its input, plays it on a network server whose store is
-//! on a disk in memory, and writes the answers, line by line. It ends with status 0, or with 1
-//! where a read or a write failed.
+//! `lns-sim` reads a script of steps from its input, plays it on a network server whose store is on
+//! a disk in memory, and writes the answers, line by line. It ends with status 0, or with 1 if a
+//! read or a write failed.
 #![tactic(auto)]
 
 use scripts::script;

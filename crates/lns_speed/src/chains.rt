@@ -18,17 +18,17 @@ const PATH: &str = "lns-speed.disk";
 /// The devices that send.
 const SENDING: u16 = 64;
 
-/// How many batches are decided before they are made durable.
+/// The number of batches that are decided before they are made durable.
 const BATCHES: u16 = 64;
 
-/// How often that is done: so often that the journal has room for all of it.
+/// How often that is done. The journal has room for all of it.
 const ROUNDS: u32 = 6;
 
-/// How many batches a chain has at most, as it is told.
+/// The greatest number of batches of a chain, with the text that is printed for it.
 const CHAINS: [(&str, u64); 2] = [("each batch alone", 1), ("in chains of 64", 64)];
 
-/// Tells how many decisions a second become durable on a file, in batches of 64, and how many calls
-/// of the disk a run of 64 batches takes: each alone, and in chains.
+/// Prints how many decisions a second become durable on a file, in batches of 64, and how many
+/// calls of the disk a run of 64 batches takes: each batch alone, and in chains.
 pub fn tell_chains<R: Clock + Eprint + Files<File = File>>(
     rt: &R,
     alloc: Global,
@@ -77,7 +77,7 @@ fn measure<R: Clock + Files<File = File>>(
     }
 }
 
-// As many uplinks are decided as the batches have.
+// Decides as many uplinks as the batches have.
 fn decide_all<D: Disk + Drop>(
     server: &mut Server<D>,
     senders: &mut Senders,
@@ -89,7 +89,7 @@ fn decide_all<D: Disk + Drop>(
     Ok(())
 }
 
-// What was decided is committed, until nothing is left.
+// Commits what was decided, until nothing is left.
 fn commit_all<D: Disk + Drop>(server: &mut Server<D>, length: ChainLength) -> Result<(), Refusal> {
     for _ in 0..=BATCHES {
         if server.commit_chain(length)? == 0 {

@@ -10,7 +10,7 @@ pub struct Counted<'x, D: Disk> {
 }
 
 impl<'x, D: Disk> Counted<'x, D> {
-    /// The disk, whose calls are counted here.
+    /// The disk whose calls are counted here.
     pub fn new(disk: D, calls: &'x Cell<u64>) -> Self {
         Counted { disk, calls }
     }

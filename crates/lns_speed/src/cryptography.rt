@@ -10,10 +10,10 @@ const KEY: Key = Key([0x2B; 16]);
 
 const DEVICE: DevAddr = DevAddr(0x2601_1BDA);
 
-/// How many bytes a frame has, a usual length at DR0.
+/// The number of bytes of a frame: a usual length at DR0.
 const FRAME_LEN: usize = 51;
 
-/// For how long each kind of work is measured, in milliseconds.
+/// How long each kind of work is measured, in milliseconds.
 const MEASURED_MILLIS: u128 = 1000;
 
 /// More rounds than fit into that time on any machine of today.
@@ -22,7 +22,7 @@ const MOST_ROUNDS: u32 = 100_000;
 /// What is measured.
 #[derive(Clone, Copy)]
 enum Work {
-    /// A block is encrypted under one key schedule, time and again.
+    /// A block is encrypted under one key schedule, repeatedly.
     Blocks,
     /// A payload is encrypted under each counter.
     Payloads,
@@ -47,7 +47,7 @@ impl Work {
         }
     }
 
-    /// Does it. A byte of what comes out is given, so that no compiler leaves the work out.
+    /// Does it. Returns a byte of the result, so that no compiler leaves the work out.
     fn run(self) -> u8 {
         let times = self.times();
         match self {
@@ -57,7 +57,7 @@ impl Work {
         }
     }
 
-    /// Does it for a second or a little more, and tells how many a second were done.
+    /// Does it for a second or a little more, and returns how many were done in a second.
     fn measure(self, rt: &(impl Clock + Eprint)) -> io::Result<()> {
         let name = self.name();
         let start = Instant::now(rt)?;
@@ -100,7 +100,7 @@ fn make_mics(times: u32) -> u8 {
     message[0]
 }
 
-/// Tells how many of each are done in a second.
+/// Prints how many of each are done in a second.
 pub fn tell_cryptography(rt: &(impl Clock + Eprint)) -> io::Result<()> {
     for work in [Work::Blocks, Work::Payloads, Work::Mics] {
         work.measure(rt)?;

@@ -7,10 +7,11 @@ use sessions::Table;
 use std::alloc::Global;
 use std::rt::Clock;
 
-/// For how long one kind of event is decided in a table, in nanoseconds.
+/// How long one kind of event is decided in a table, in nanoseconds.
 const MEASURED_NANOS: u128 = 1_000_000_000;
 
-/// How many events are decided before the device's record is put back and the clock is read again.
+/// The number of events that are decided before the device's record is put back and the clock is
+/// read again.
 const TIMES: u16 = 16;
 
 /// More rounds than fit into that time on any machine of today.
@@ -19,9 +20,9 @@ const MOST_ROUNDS: u32 = 1_000_000;
 /// What a device sends.
 #[derive(Clone, Copy)]
 pub enum Workload {
-    /// It asks to join.
+    /// A request to join.
     Join,
-    /// An uplink of 24 bytes with this MHDR, while so many items of 24 bytes wait.
+    /// An uplink of 24 bytes with this MHDR, while this number of items of 24 bytes wait.
     Uplink { mhdr: u8, items: u32 },
 }
 
@@ -31,13 +32,13 @@ pub const UPLINK: Workload = Workload::Uplink {
     items: 0,
 };
 
-/// A confirmed uplink, which is answered with an item; as many wait as may.
+/// A confirmed uplink, which is answered with an item. As many items wait as may.
 pub const ANSWERED: Workload = Workload::Uplink {
     mhdr: 0x80,
     items: 16,
 };
 
-/// Frames that come one after another to the device at a slot, which has this record first.
+/// Frames that come one after another to the device at a slot, which first has this record.
 #[derive(Drop)]
 struct FrameRun {
     slot: u16,
@@ -58,8 +59,8 @@ impl FrameRun {
         })
     }
 
-    /// Decides the frames and puts the records that they leave into the table, where the device has
-    /// its first record.
+    /// Decides the frames and puts the records that they leave into the table, in which the device
+    /// has its first record.
     fn decide(&self, alloc: Global, table: &mut Table) -> Result<(), Refusal> {
         table.put(self.slot, self.record.copy()?)?;
         for (seq, frame) in self.frames.iter().enumerate() {
@@ -74,8 +75,8 @@ fn decide_one(alloc: Global, table: &mut Table, seq: u64, frame: Heard) -> Resul
     table.apply(&decision)
 }
 
-/// How many nanoseconds an event of the last device takes in a full table, decided for a second or
-/// a little more.
+/// The number of nanoseconds that an event of the last device takes in a full table, decided for a
+/// second or a little more.
 pub fn measure(
     rt: &impl Clock,
     alloc: Global,

@@ -1,9 +1,9 @@
-//! `lns-speed`: how long it takes on one processor here to decide a command and to put its record
-//! into the table, in tables of 8 to 4,096 devices; and how many decisions a second become durable
-//! on a file with real syncs, each batch alone and in chains, for which alone the word `chains`
-//! asks. The word `cryptography` asks how fast that of frames is. What was measured goes to
-//! standard error, since it is never the same twice; standard output stays empty. The status is 2
-//! for other words, and 1 where a write failed.
+//! `lns-speed` measures on one processor how long it takes to decide a command and to put its
+//! record into the table, in tables of 8 to 4,096 devices. It also measures how many decisions a
+//! second become durable on a file with real syncs, each batch alone and in chains. With the word
+//! `chains` it measures only that, with the word `cryptography` the speed of the cryptography of
+//! frames. The results go to standard error, since they are never the same twice; standard output
+//! stays empty. The status is 2 for other words, and 1 if a write failed.
 #![tactic(auto)]
 
 mod chains;
@@ -24,21 +24,21 @@ use std::rt::{Clock, Env, Files};
 use std::{env, io};
 use told::tell;
 
-/// The slots of a small table, of one between them, and of the largest.
+/// The numbers of slots of a small table, of the largest one, and of one between them.
 const SLOTS: [u16; 3] = [8, 512, MOST];
 
-/// The slots of the largest table.
+/// The number of slots of the largest table.
 const MOST: u16 = 4096;
 
-/// The events of one device that are decided, and whose records are put into the table, as they are
-/// told.
+/// The events of one device that are decided, and whose records are put into the table, with the
+/// texts that are printed for them.
 const MEASURED: [(&str, Workload); 3] = [
     ("a join decided", Workload::Join),
     ("an uplink decided", decided::UPLINK),
     ("an uplink that is answered decided", decided::ANSWERED),
 ];
 
-/// Tells how much longer something takes with the most devices than with few, where both were
+/// Prints how much longer something takes with the most devices than with few, if both were
 /// measured.
 fn tell_ratio(rt: &impl Eprint, name: &str, few: u32, most: u32) -> io::Result<()> {
     let [fewest, ..] = SLOTS;
@@ -53,7 +53,7 @@ fn tell_ratio(rt: &impl Eprint, name: &str, few: u32, most: u32) -> io::Result<(
     }
 }
 
-/// Tells how long something takes in each table.
+/// Prints how long something takes in each table.
 fn compare(
     rt: &(impl Clock + Eprint),
     alloc: Global,
@@ -91,7 +91,7 @@ fn read_words<R: Env + AllocGlobal>(rt: &R) -> io::Result<Asked> {
     })
 }
 
-/// Measures and tells all but the cryptography.
+/// Measures and prints everything except the cryptography.
 fn tell_server<R: Clock + Eprint + Files<File = File>>(rt: &R, alloc: Global) -> io::Result<()> {
     for (name, workload) in MEASURED {
         compare(rt, alloc, name, workload)?;

@@ -17,10 +17,10 @@ const NWK_SKEY: Key = Key([0x2C; 16]);
 
 const JOIN_EUI: Eui = Eui(0x0102_0304_0506_0708);
 
-/// The DevEUI of the device at slot 0; those of the others follow it.
+/// The DevEUI of the device at slot 0. Those of the other devices follow it.
 const FIRST_DEV_EUI: u64 = 0x1112_1314_1516_0000;
 
-/// How the one gateway in reach hears a frame.
+/// How the only gateway in reach hears a frame.
 const HEARING: Hearing = Hearing {
     reception: Reception {
         gateway: Eui(0x2122_2324_2526_2728),
@@ -36,7 +36,7 @@ fn dev_eui(slot: u16) -> Eui {
     Eui(FIRST_DEV_EUI + u64::from(slot))
 }
 
-/// The device at a slot is provisioned.
+/// Provisions the device at a slot.
 pub fn provisioning(slot: u16) -> Provisioning {
     Provisioning {
         application: Application::new(0).unwrap(),
@@ -48,7 +48,7 @@ pub fn provisioning(slot: u16) -> Provisioning {
     }
 }
 
-/// A table of so many slots with a device in each.
+/// A table of this number of slots with a device in each.
 pub fn full_table(alloc: Global, slots: u16) -> Result<Table, Refusal> {
     let size = Slots::new(u64::from(slots)).ok_or(Refusal::Damaged)?;
     let mut table = Table::new(alloc, NetId::zero(), size)?;
@@ -67,7 +67,7 @@ pub fn record(alloc: Global, workload: Workload, slot: u16) -> Result<Device, Re
     Ok(device)
 }
 
-// The device has a session that had its uplink 0, and so many items wait for it.
+// The device has a session that had its uplink 0, and this number of items wait for it.
 fn put_in_use(alloc: Global, items: u32, device: &mut Device) -> Result<(), Refusal> {
     device.items = waiting(alloc, items)?;
     device.activation = in_use().ok_or(Refusal::Damaged)?;
@@ -90,7 +90,7 @@ fn in_use() -> Option<Activation> {
     Activation::new(Some(first), Some(current), None)
 }
 
-// So many unconfirmed items of 24 bytes.
+// This number of unconfirmed items of 24 bytes.
 fn waiting(alloc: Global, count: u32) -> Result<ItemQueue, Refusal> {
     let mut items = Vec::new(alloc);
     for tag in 0..count {
@@ -105,7 +105,7 @@ fn waiting(alloc: Global, count: u32) -> Result<ItemQueue, Refusal> {
 }
 
 /// The frame of this number of the device at a slot, as the gateway heard it. An uplink has the
-/// counter behind the number.
+/// counter after the number.
 pub fn heard(alloc: Global, workload: Workload, slot: u16, number: u16) -> Result<Heard, Refusal> {
     let hearings = Hearings::of(alloc, HEARING)?;
     let phy_payload = match workload {

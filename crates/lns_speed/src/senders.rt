@@ -11,13 +11,13 @@ const GATEWAY: u64 = 0;
 pub struct Senders {
     slots: u16,
     key: Key,
-    // Who sends next, and with which counter.
+    // The device that sends next, and its counter.
     next: u16,
     counter: u32,
 }
 
 impl Senders {
-    /// So many devices, each of which joined once and has sent nothing since.
+    /// This number of devices, each of which joined once and has sent nothing since.
     pub fn new(slots: u16) -> Self {
         Senders {
             slots,
@@ -27,7 +27,7 @@ impl Senders {
         }
     }
 
-    /// The copies of so many uplinks.
+    /// The copies of this number of uplinks.
     pub fn copies(&mut self, alloc: Global, uplinks: u16) -> Result<Vec<FrameCopy>, Refusal> {
         let mut copies = Vec::new(alloc);
         for _ in 0..uplinks {

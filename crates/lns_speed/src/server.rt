@@ -1,4 +1,4 @@
-// A server with a network of its own: what comes is decided, committed and released.
+// A server with a network of its own. What comes is decided, committed and released.
 use crate::network::{copy_of, join_request, provisioning};
 use disk::Disk;
 use flusher::{ChainLength, Feed, Most, chain};
@@ -8,7 +8,7 @@ use sessions::{Batch, Slots};
 use std::alloc::Global;
 use store::{Store, disk_len};
 
-/// For how long the copies of a frame are gathered, in milliseconds.
+/// How long the copies of a frame are gathered, in milliseconds.
 const WAIT: u64 = 200;
 
 /// The decisions of a batch.
@@ -39,7 +39,7 @@ pub struct Server<D: Disk> {
 }
 
 impl<D: Disk + Drop> Server<D> {
-    /// A server without devices, with so many slots, on a disk of the length for them.
+    /// A server without devices, with this number of slots, on a disk of the length for them.
     pub fn on(alloc: Global, disk: D, slots: u16) -> Result<Self, Refusal> {
         let now = Moment::new(0).ok_or(Refusal::Damaged)?;
         let store = store::format(alloc, disk, NetId::zero(), u64::from(slots))?;
@@ -51,7 +51,7 @@ impl<D: Disk + Drop> Server<D> {
         })
     }
 
-    /// So many devices are provisioned, and each joins.
+    /// Provisions this number of devices, and each of them joins.
     pub fn join_all(&mut self, slots: u16) -> Result<(), Refusal> {
         for slot in 0..slots {
             self.bring(slot)?;
@@ -67,7 +67,7 @@ impl<D: Disk + Drop> Server<D> {
         is_done(self.core.0.provision(self.now, provisioning(slot)))
     }
 
-    /// Copies of frames come, and their windows are closed, so that they are decided.
+    /// Copies of frames come and their windows are closed, so that they are decided.
     pub fn decide(&mut self, copies: Vec<FrameCopy>) -> Result<(), Refusal> {
         for copy in copies {
             self.hear(copy)?;
@@ -84,7 +84,7 @@ impl<D: Disk + Drop> Server<D> {
         is_done(self.core.0.tick(self.now))
     }
 
-    // All windows are closed, and what was decided is committed and released.
+    // Closes all windows, commits what was decided, and releases its effects.
     fn settle(&mut self) -> Result<(), Refusal> {
         self.close_windows()?;
         for _ in 0..self.core.0.untaken().div_ceil(usize::from(BATCH)) {
@@ -93,14 +93,15 @@ impl<D: Disk + Drop> Server<D> {
         Ok(())
     }
 
-    // The oldest decisions are committed, after a checkpoint where the journal is full, and their
-    // effects are released.
+    // Commits the oldest decisions, after a checkpoint if the journal is full, and releases their
+    // effects.
     fn commit(&mut self) -> Result<usize, Refusal> {
         let one = ChainLength::new(1).ok_or(Refusal::Damaged)?;
         self.commit_chain(one)
     }
 
-    /// The same of so many batches at most, in a chain: how many decisions they had.
+    /// The same with at most this number of batches, in a chain. Returns the number of their
+    /// decisions.
     pub fn commit_chain(&mut self, most: ChainLength) -> Result<usize, Refusal> {
         chain(
             &mut self.store,
@@ -112,7 +113,7 @@ impl<D: Disk + Drop> Server<D> {
     }
 }
 
-/// The length of a disk for so many slots.
+/// The length of a disk for this number of slots.
 pub fn len_of(slots: u16) -> Result<u64, Refusal> {
     Ok(disk_len(Slots::new(u64::from(slots)).ok_or(Refusal::Damaged)?))
 }

@@ -1,4 +1,4 @@
-// What a measurement gives, or why nothing was measured.
+// What a measurement returns, or why nothing was measured.
 use lw_types::Refusal;
 use std::fmt;
 use std::rt::Clock;
@@ -10,7 +10,7 @@ pub enum Unmeasured {
     Refused(Refusal),
     /// The clock can't be read.
     NoClock,
-    /// The clock stands still, or leaps.
+    /// The clock stands still or jumps.
     OddClock,
 }
 
@@ -47,8 +47,8 @@ pub fn nanos_since(rt: &impl Clock, start: Result<u128, Unmeasured>) -> Result<u
     Ok(clock_nanos(rt)?.saturating_sub(start?))
 }
 
-/// The nanoseconds of one of so many events that took so long together. On no machine of today are
-/// they none, or seconds.
+/// The nanoseconds of one of this number of events, which took this time together. On any machine
+/// of today that is more than 0 and less than seconds.
 pub fn nanos_of_one(spent: u128, events: u128) -> Result<u32, Unmeasured> {
     match u32::try_from(spent.checked_div(events).unwrap_or(0)) {
         Ok(nanos) if nanos > 0 => Ok(nanos),

@@ -1,8 +1,9 @@
-// What is told of a measurement.
+// Prints a measurement.
 use crate::timing::Unmeasured;
 use std::io;
 
-/// Tells how many nanoseconds an event takes with so many devices, or why that wasn't measured.
+/// Prints how many nanoseconds an event takes with this number of devices, or why that wasn't
+/// measured.
 pub fn tell(
     rt: &impl Eprint,
     name: &str,

@@ -7,7 +7,7 @@ fn disk_of(alloc: Global, bytes: &[u8]) -> Result<MemDisk, AllocError> {
     MemDisk::new(alloc, Vec::from_slice(alloc, bytes)?)
 }
 
-// Whether these bytes are written there.
+// Whether these bytes can be written there.
 fn is_written(disk: &mut MemDisk, at: u64, bytes: &[u8]) -> bool {
     let len = bytes.len() as u64;
     len <= disk.len() && at <= disk.len() - len && disk.write_at(at, bytes).is_ok()
@@ -25,8 +25,7 @@ fn are_written(disk: &mut MemDisk) -> bool {
 
 const BYTES: &[u8] = &[1, 2, 3, 4, 5, 6, 7, 8];
 
-// Whether these bytes are what a crash leaves, and another one behind it, since nothing is open
-// then.
+// Whether a crash leaves these bytes, and another one after it too, since nothing is open then.
 fn leaves(alloc: Global, image: &Image, wanted: &[u8]) -> Result<bool, AllocError> {
     let mut disk = disk_of(alloc, BYTES)?;
     let are_written = are_written(&mut disk);
@@ -58,8 +57,8 @@ fn a_crash_leaves_its_image(rt: HostRuntime) {
     assert!(rt; leaves_bytes(alloc, &[0, 0, 0, 99, 0], MIXED) == Ok(true));
 }
 
-// Which of a read, a write of the first byte and two syncs fail where the nth call does, and the
-// first byte after them.
+// Which of a read, a write of the first byte and two syncs fail if the nth call does, and the first
+// byte after them.
 type Failing = ([bool; 4], u8);
 
 fn failing(alloc: Global, n: u64) -> Result<Option<Failing>, AllocError>
@@ -95,8 +94,7 @@ fn the_call_that_was_armed_fails(rt: HostRuntime) {
     assert!(rt; failing(alloc, 3) == Ok(Some(([false, false, true, false], 11))));
 }
 
-// What a crash leaves of three bytes after a write of the second one that fails and a sync that
-// fails.
+// What a crash leaves of three bytes after a failed write of the second one and a failed sync.
 fn failed(alloc: Global, wanted: &[u8]) -> Result<bool, AllocError> {
     let mut disk = disk_of(alloc, &[1, 2, 3])?;
     disk.arm(1);

@@ -24,7 +24,7 @@ const AREAS: Areas = Areas {
 
 const LEN: usize = 200;
 
-// Whether both areas lie on a disk of this length, the other one behind the live one.
+// Whether both areas lie on a disk of this length, with the other one after the live one.
 fn are_laid_out(areas: Areas, len: u64) -> bool
     ensures { result ≡ true → AreLaidOut areas len }
 {
@@ -61,7 +61,7 @@ fn begun_batch(alloc: Global, last_sequence: u64, entries: &[u8]) -> Result<Begu
     Ok(Begun::new(buffer, last_sequence, 1)?)
 }
 
-// Commits a batch, and whether no call of the disk failed.
+// Commits a batch. Returns whether no call of the disk failed.
 fn commit(
     alloc: Global,
     log: &mut Log<MemDisk>,
@@ -87,7 +87,7 @@ fn commit(
     Ok(true)
 }
 
-// Closes the other area's gate where it is open, and whether no call of the disk failed.
+// Closes the other area's gate if it is open. Returns whether no call of the disk failed.
 fn retire(log: &mut Log<MemDisk>) -> bool {
     if !log.is_other_open() {
         return true;
@@ -115,7 +115,7 @@ fn begun(alloc: Global, generation: u64, records: &[u8]) -> Result<Checkpoint, A
     Checkpoint::new(bytes, header)
 }
 
-// Makes a checkpoint, and whether no call of the disk failed.
+// Makes a checkpoint. Returns whether no call of the disk failed.
 fn checkpoint(
     alloc: Global,
     log: &mut Log<MemDisk>,
@@ -140,8 +140,8 @@ fn checkpoint(
     Ok(opened.sync(log).is_ok())
 }
 
-// A step on a log, and whether no call of the disk failed: `a` and `b` are batches, `c` a
-// checkpoint, `d` a batch behind it, and `e` another checkpoint.
+// Takes a step on a log, and returns whether no call of the disk failed: `a` and `b` are batches,
+// `c` is a checkpoint, `d` a batch after it, and `e` another checkpoint.
 fn take(alloc: Global, log: &mut Log<MemDisk>, step: char) -> Result<bool, RecoverError> {
     match step {
         'a' => commit(alloc, log, 1, b"first"),
@@ -205,7 +205,7 @@ fn recover(
 }
 
 // The generation of what a disk holds, and the numbers of its batches, of which there are at most
-// two; 0 stands for none.
+// two; 0 means none.
 type Held = (u64, u64, u64);
 
 fn held(alloc: Global, disk: MemDisk) -> Result<Held, RecoverError> {
@@ -219,21 +219,21 @@ fn held(alloc: Global, disk: MemDisk) -> Result<Held, RecoverError> {
     Ok((recovered.header.generation, first, second))
 }
 
-// The live area's header, a batch of three bytes, and a closed gate; behind it the disk is as it
+// The live area's header, a batch of three bytes, and a closed gate; after it the disk is as it
 // was.
 const LAYOUT: &[u8] = &[
     0xA5, 1, 0, 0, 0, 0, 0, 0, 0, 1, 0, 0, 0, 0, 0, 0, 0, 0, 0, 0, 0, 0, 0, 0, 0, 0, 0, 0, 0, 0,
     0xA5, 0, 0, 0, 3, 0, 0, 0, 0, 0, 0, 1, 2, 0, 1, b'a', b'b', b'c', 0, 0xA5,
 ];
 
-// The other area's header, two records of three bytes, and a closed gate; behind it the disk is as
+// The other area's header, two records of three bytes, and a closed gate; after it the disk is as
 // it was.
 const CHECKPOINT: &[u8] = &[
     0xA5, 1, 0, 0, 0, 0, 0, 0, 2, 3, 0, 0, 0, 0, 0, 0, 0, 7, 0, 0, 0, 2, 0, 0, 0, 0, 0, 0, 0, 3,
     b'a', b'b', b'c', 0, 0xA5,
 ];
 
-// A log's room, its generation, whether the other area is open, and how long that is.
+// A log's room, its generation, whether the other area is open, and that area's length.
 fn state_of(log: &Log<MemDisk>) -> (u64, u64, bool, u64) {
     (
         log.room(),
@@ -243,7 +243,7 @@ fn state_of(log: &Log<MemDisk>) -> (u64, u64, bool, u64) {
     )
 }
 
-// Whether such a batch is written so.
+// Whether such a batch is written this way.
 fn is_laid_out(alloc: Global, log: &mut Log<MemDisk>) -> Result<bool, RecoverError> {
     Ok(commit(alloc, log, 0x0102, b"abc")? && log.room() == 48)
 }
@@ -280,7 +280,7 @@ fn around(last: char) -> (&'static str, Held, Held) {
     }
 }
 
-// Whether the last step is done, of which the nth call fails, and whether a crash to an image
+// Whether the last step, of which the nth call fails, is done, and whether a crash to an image
 // leaves it.
 fn left(alloc: Global, last: char, n: u64, image: &Image) -> Result<(bool, bool), RecoverError> {
     let (steps, before, after) = around(last);
@@ -319,7 +319,7 @@ const CRASHES: &[Crash] = &[
     ('c', 3, false, false, false, true),
     ('c', 4, false, false, true, true),
     ('c', 5, true, true, true, true),
-    // One over an old checkpoint closes that one's gate before.
+    // One over an old checkpoint closes that one's gate first.
     ('e', 1, false, false, false, false),
     ('e', 2, false, false, false, false),
     ('e', 3, false, false, false, false),
@@ -337,8 +337,8 @@ fn a_crash_leaves_what_was_or_what_is_written(rt: HostRuntime) {
     }
 }
 
-// Two batches of which the gate of the first and the body of the second share a sync; whether no
-// call of the disk failed.
+// Commits two batches; the gate of the first and the body of the second share a sync. Returns
+// whether no call of the disk failed.
 fn commit_pair(alloc: Global, log: &mut Log<MemDisk>) -> Result<bool, RecoverError> {
     if log.room() < 64 {
         return Err(RecoverError::Damaged);
@@ -376,7 +376,7 @@ fn commit_pair(alloc: Global, log: &mut Log<MemDisk>) -> Result<bool, RecoverErr
     Ok(true)
 }
 
-// How many batches are left of an image, where the nth call of a pair fails.
+// The number of batches that are left in an image if the nth call of a pair fails.
 fn left_of_pair(alloc: Global, n: u64, image: &Image) -> Result<usize, RecoverError> {
     let mut log = fresh(alloc, AREAS, LEN)?;
     if n > 0 {
@@ -397,8 +397,8 @@ fn left_of_pair(alloc: Global, n: u64, image: &Image) -> Result<usize, RecoverEr
     }
 }
 
-// The call that fails, and how many batches are left of the old bytes, of the new ones and of open
-// gates.
+// The call that fails, and the number of batches that are left in the old bytes, in the new ones
+// and in open gates.
 const PAIRS: &[(u64, usize, usize, usize)] = &[
     (1, 0, 0, 0),
     (2, 0, 0, 0),
@@ -424,10 +424,10 @@ fn a_crash_leaves_the_batches_whose_gates_are_open(rt: HostRuntime) {
     }
 }
 
-// A byte that stands nowhere on the disks of these tests.
+// A byte that doesn't occur on the disks of these tests.
 const TORN: u8 = 0xDD;
 
-// Whether the step is done, the first position that is open then, and how many are.
+// Whether the step is done, the first position that is then open, and the number of open ones.
 type Open = (bool, Option<usize>, usize);
 
 fn open_positions(alloc: Global, last: char, n: u64) -> Result<Open, RecoverError> {
@@ -438,8 +438,8 @@ fn open_positions(alloc: Global, last: char, n: u64) -> Result<Open, RecoverErro
     Ok((is_done, first, count))
 }
 
-// A checkpoint writes its header, its records and a gate behind the closed gate of the other area,
-// and then that; one that is open is closed first.
+// A checkpoint writes its header, its records and a gate after the closed gate of the other area,
+// and then opens that gate; a gate that is open is closed first.
 const OPEN_POSITIONS: &[(char, u64, bool, Option<usize>, usize)] = &[
     ('c', 1, false, Some(101), 33),
     ('c', 2, false, Some(101), 33),
@@ -522,7 +522,7 @@ fn short_log(alloc: Global) -> Result<Log<MemDisk>, RecoverError> {
     }
 }
 
-// What is held where a byte of its disk is changed, and the area's last byte is a closed gate.
+// What is held if a byte of its disk is changed, and the area's last byte is a closed gate.
 fn changed(alloc: Global, at: usize, byte: u8) -> Result<Held, RecoverError> {
     let mut bytes = [0; LEN];
     let disk = short_log(alloc)?.close();
@@ -540,13 +540,13 @@ const CHANGES: &[(usize, u8, Result<Held, RecoverError>)] = &[
     (49, b'z', Ok((1, 1, 0))),
     // The area's gate.
     (4, 0, Err(RecoverError::Damaged)),
-    // The length of the records: as long as fits the area, and one longer.
+    // The length of the records: the greatest that fits the area, and one more.
     (33, 65, Ok((1, 0, 0))),
     (33, 66, Err(RecoverError::Damaged)),
     // The length of the entries, likewise.
     (38, 50, Ok((1, 1, 0))),
     (38, 51, Err(RecoverError::Damaged)),
-    // The batch's gate, behind which nothing counts.
+    // The batch's gate, after which nothing counts.
     (34, 0, Ok((1, 0, 0))),
 ];
 
@@ -560,8 +560,8 @@ fn a_damaged_area_is_refused(rt: HostRuntime) {
     }
 }
 
-// The error of a recovery, or, where the sync before it fails, the length of the disk that comes
-// back.
+// The error of a recovery, or, if the sync before it fails, the length of the disk that is
+// returned.
 type Fault = Result<Option<RecoverError>, u64>;
 
 fn fault(alloc: Global, disk: MemDisk) -> Fault {
@@ -604,7 +604,7 @@ const HEADER: Header = Header {
     records_len: 0,
 };
 
-// Whether a new area's header is read where the gate is open, and the log goes on behind it.
+// Whether a new area's header is read if the gate is open, and the log continues after it.
 fn goes_on(mut opening: Opening<MemDisk>) -> Result<bool, RecoverError> {
     let Some(live) = live(&mut opening)? else {
         return Ok(false);

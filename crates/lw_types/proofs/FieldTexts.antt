@@ -13,13 +13,13 @@ unfolding field_text
 not_empty [] e = absurd cc
 not_empty (byte ∷ bytes) e = absurd (let len = length-hex_text (byte ∷ bytes) in omega (arith, len, ap length e))
 
--- a dash is the text of nothing else
+-- a dash is the text of the empty list alone
 pub dash_alone : (bytes : List ℕ) → field_text bytes ≡ 45 ∷ [] → [] ≡ bytes
 unfolding field_text
 dash_alone [] e = refl
 dash_alone (byte ∷ bytes) e = absurd (let len = length-hex_text (byte ∷ bytes) in omega (arith, len, ap length e))
 
--- a text that is neither empty nor a dash is a byte text in a line where it is one
+-- a text that is neither empty nor a dash is a byte text in a line if it is hex
 pub field_from_hex : (text bytes : List ℕ) → text ≢ [] → text ≡ hex_text bytes → text ≡ field_text bytes
 unfolding field_text
 field_from_hex text [] some e = absurd (some (e ∙ hex_text-nil))

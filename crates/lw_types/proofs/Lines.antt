@@ -10,7 +10,7 @@ use Rattle.std.proofs.lemmas.List.Splits.{join_with_byte-slice_split, slice_spli
 use Rattle.std.proofs.lemmas.Str.Pattern.{IsSplitOnceResult, split_parts}
 use Rattle.lw_types.specs.Words.{is_space, words_of, line_of, IsWord, AreWords}
 
--- no space stands in the text
+-- the text has no space
 pub word_from_bytes : (text : List ℕ) → ((i : ℕ) → i < length text → get_or text i 0 ≢ 32) → IsWord text
 word_from_bytes text h k d lt = ne_eqb (get_or text k d) 32 (λ e. h k lt (get_or_default text k 0 d lt ∙ e))
 

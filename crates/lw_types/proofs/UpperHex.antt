@@ -72,7 +72,7 @@ pairs_written i (a ∷ b ∷ text) bytes upper h =
     let others = pairs_written (i + 2) text rest.0 (All-tail (λ c. is_upper_digit c ≡ true) b text after) rest.1 in
     rw (← whole, top, bottom, a-back, b-back, ← others) refl
 
--- a text has upper-case digits alone
+-- a text that has only upper-case digits
 upper_written : (bytes : List ℕ) → IsBytes bytes → AllPass is_upper_digit (encode_with upper_digits bytes)
 unfolding encode_with
 upper_written [] fits = All-nil (λ c. is_upper_digit c ≡ true)
@@ -135,7 +135,7 @@ read_array_found text n upper = array_found text n (decode_sized text n) upper r
 is_hex : (c : ℕ) → is_upper_digit c ≡ true → is_hex_digit c ≡ true
 is_hex c upper = grind arith
 
--- an even number of upper-case digits is the text of some bytes, and no other text is
+-- a text of an even number of upper-case digits is the text of some bytes; no other text is
 pub hex_from_digits : (text : List ℕ) → length text % 2 ≡ 0 → AllPass is_upper_digit text → IsHexText text
 hex_from_digits text even upper =
     let digits : AllPass is_hex_digit text = λ k d lt. is_hex (get_or text k d) (upper k d lt) in

@@ -86,7 +86,7 @@ pub net_id_none : (text : List ℕ) (network : ℕ) → ((bytes : List ℕ) → 
 unfolding net_id_text
 net_id_none text network h lt is = h (0 ∷ 0 ∷ network ∷ []) (IsBytes-network network lt, refl, is)
 
--- the network of three bytes, where the number is one
+-- the network of three bytes, if their number is a network's
 pub network_found : (text bytes : List ℕ) (n : ℕ) (r : Option ℕ) → IsArrayText text 3 bytes → n ≡ from_be_bytes w32 (0 ∷ bytes) → SomeIff r (n < 64) n → IfSome r (λ network. text ≡ net_id_text network)
 network_found text bytes n None h e made = tt
 network_found text bytes n (Some network) h e made = rw made.1 (net_id_found text bytes n h e made.0)

@@ -20,7 +20,7 @@ hex_text bytes = encode_upper bytes
 abbrev pub IsHexText : List ℕ → Type 0
 IsHexText text = (bytes : List ℕ) × IsBytes bytes × (text ≡ hex_text bytes)
 
--- a byte text in a line: a dash where there are no bytes
+-- a byte text in a line: a dash if there are no bytes
 unfoldable pub field_text : List ℕ → List ℕ
 field_text [] = codes "-"
 field_text (byte ∷ bytes) = hex_text (byte ∷ bytes)

@@ -1,4 +1,4 @@
--- The numbers and the words by which the outside names refusals.
+-- The numbers and the words of refusals, as callers and readers see them.
 use Rattle.std.specs.Prelude.{ℕ, List, codes}
 use Rattle.lw_types.specs.declared.refusal.Refusal.{Refusal}
 use Rattle.lw_types.specs.declared.refusal.Refusal.TheVariants.{Malformed, NotServed}

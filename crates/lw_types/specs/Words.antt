@@ -1,4 +1,4 @@
--- The words of a line, each parted from the next by exactly one space.
+-- The words of a line, separated by exactly one space each.
 use Rattle.std.specs.Prelude.{◌≡◌, ℕ, ◌<◌, ◌==◌, Bool, false, List, [], length, All, Option, Some}
 use Rattle.std.specs.Prelude.{None}
 use Rattle.std.specs.List.{AllByRecursion, join_with_byte, slice_split}
@@ -15,7 +15,7 @@ words_of line = slice_split is_space line
 unfoldable pub line_of : List (List ℕ) → List ℕ
 line_of words = join_with_byte 32 words
 
--- no space stands in it
+-- it has no space
 abbrev pub IsWord : List ℕ → Type 0
 IsWord text = All (λ c. is_space c ≡ false) text
 
@@ -23,7 +23,7 @@ IsWord text = All (λ c. is_space c ≡ false) text
 abbrev pub AreWords : List (List ℕ) → Type 0
 AreWords words = (0 < length words) × AllByRecursion IsWord words
 
--- the words of a rest of a line, where there is one
+-- the words of the rest of a line, if there is a rest
 abbrev pub words_in : Option (Bor (List ℕ)) → List (List ℕ)
 words_in None = []
 words_in (Some rest) = words_of rest.now

@@ -18,7 +18,7 @@ pub struct Bytes<const MOST: usize> {
     items: Vec<u8>,
 }
 
-// By hand, so that its proof is done once: a derived drop is proved anew wherever a value goes.
+// By hand, so that it is proved once: a derived drop is proved again at each use of the type.
 impl<const MOST: usize> Drop for Bytes<MOST> {
     fn drop(self) {
         let Self { items: _ } = self;
@@ -43,7 +43,7 @@ impl<const MOST: usize> Bytes<MOST> {
         }
     }
 
-    /// These bytes, where they are at most `MOST`; else the vector back.
+    /// These bytes, if they are at most `MOST`; otherwise the vector is returned as the error.
     pub fn new(items: Vec<u8>) -> Result<Self, Vec<u8>>
         ensures { MatchResult result
             (λ b. (length items.items ≤ MOST) × (b ≡ items.items))
@@ -56,7 +56,7 @@ impl<const MOST: usize> Bytes<MOST> {
         }
     }
 
-    /// A copy of these bytes, in memory of its own.
+    /// A copy of these bytes in newly allocated memory.
     pub fn from_slice(alloc: Global, bytes: &[u8]) -> Result<Self, AllocError>
         requires { length bytes.now ≤ MOST }
         ensures { IfOk result (λ copy. copy ≡ bytes.now) }
@@ -132,7 +132,7 @@ impl<const MOST: usize> Hash for Bytes<MOST> {
     }
 }
 
-/// Shows the bytes as decimals, as in `[64, 1]`.
+/// Shows the bytes as decimals, for example `[64, 1]`.
 impl<const MOST: usize> fmt::Debug for Bytes<MOST> {
     ghost debug_output = { debug_list (λ byte. Some (decimal byte)) };
 

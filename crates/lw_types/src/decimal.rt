@@ -1,4 +1,4 @@
-// Decimals, which have one spelling here: no `+`, no leading zeros, and no `-0`.
+// Decimals. Each number has one spelling: no `+`, no leading zeros, and no `-0`.
 ghost use Rattle.std.specs.Prelude.{◌≡◌, ◌<◌, ◌^◌, ◌||◌, FitsSigned};
 ghost use Rattle.std.specs.Fmt.{decimal, signed_decimal};
 ghost use Rattle.std.specs.Int.{w16};
@@ -6,8 +6,8 @@ ghost use Rattle.lw_types.specs.Decimal.{starts_plain, starts_with_minus};
 
 use crate::text::FromText;
 
-/// Whether the text has no sign and no leading zero, so that it is a decimal if its other bytes are
-/// digits.
+/// Whether the text has no sign and no leading zero. Such a text is a decimal if all its other
+/// bytes are digits.
 fn starts_plain(text: &str) -> bool
     ensures { result ≡ starts_plain text.now }
 {
@@ -18,7 +18,7 @@ fn starts_plain(text: &str) -> bool
     }
 }
 
-/// Whether the text has no sign but a minus before a number other than 0, and no leading zero.
+/// Whether the text has no leading zero, and no sign except a minus before a number other than 0.
 fn starts_signed(text: &str) -> bool
     ensures { result ≡ (starts_plain text.now || starts_with_minus text.now) }
 {

@@ -22,18 +22,19 @@ pub struct Reception {
     pub rssi: i16,
 }
 
-/// A frame as one gateway heard it: of one frame each gateway in reach has a copy.
+/// A frame as one gateway heard it. Each gateway in range has its own copy of a frame.
 #[derive(Clone, PartialEq, Eq, Drop)]
 pub struct FrameCopy {
     pub reception: Reception,
-    /// The gateway's moment of the frame's end, in microseconds.
+    /// The gateway's time at the end of the frame, in microseconds.
     pub stamp: u32,
     pub phy_payload: PhyPayload,
 }
 
 impl FrameCopy {
     /// The copy of a frame with this PHYPayload. More than 255 bytes are refused as `FrameTooLong`,
-    /// whether or not there is memory; else want of memory as `OutOfMemory`.
+    /// whether or not memory is available; otherwise, if memory runs out, the call is refused as
+    /// `OutOfMemory`.
     pub fn new(
         alloc: Global,
         reception: Reception,
@@ -55,7 +56,7 @@ impl FrameCopy {
         })
     }
 
-    /// The same copy, in memory of its own.
+    /// The same copy in newly allocated memory.
     pub fn copy(&self) -> Result<Self, Refusal>
         ensures { MatchResult result (λ copy. copy ≡ self.now) (λ e. e ≡ OutOfMemory) }
     {

@@ -1,4 +1,4 @@
-// Bytes as upper-case hex, the only hex that is written and read.
+// Bytes as upper-case hex. No other hex is written or read.
 ghost use Rattle.std.specs.Prelude.{◌≡◌, ℕ, ◌⊎◌, List, length, IsTrue, ◌↔◌, IfOk, IfErr, IfSome};
 ghost use Rattle.std.specs.Prelude.{MatchResult, Some, Err};
 ghost use Rattle.std.specs.Fmt.{WritesOnOk};
@@ -23,7 +23,7 @@ fn is_upper(text: &str) -> bool
         .all(|digit| matches!(*digit, b'0'..=b'9' | b'A'..=b'F'))
 }
 
-/// Whether the text is that of some bytes.
+/// Whether the text is the hex of some bytes.
 fn is_hex(text: &str) -> bool
     ensures { IsTrue result ↔ IsHexText text.now }
 {
@@ -61,8 +61,8 @@ pub fn write_hex(alloc: Global, bytes: &[u8]) -> Result<String, AllocError>
     hex::encode_upper(alloc, bytes)
 }
 
-/// The bytes whose text this is. Any other text is refused as `BadMessage`, whether or not there is
-/// memory.
+/// The bytes whose text this is. Any other text is refused as `BadMessage`, whether or not memory
+/// is available.
 pub fn read_hex(alloc: Global, text: &str) -> Result<Vec<u8>, Refusal>
     ensures found { IfOk result (λ bytes. text.now ≡ hex_text bytes.items) }
     ensures only { (bytes : List ℕ) → IsBytes bytes → text.now ≡ hex_text bytes
@@ -79,7 +79,7 @@ pub fn read_hex(alloc: Global, text: &str) -> Result<Vec<u8>, Refusal>
     }
 }
 
-/// Bytes of a fixed number, as two digits each, the first byte first.
+/// Bytes of a fixed number, shown as two digits each, the first byte first.
 #[derive(Clone, Copy, PartialEq, Eq)]
 pub struct HexArray<const N: usize>(pub [u8; N]);
 
@@ -105,7 +105,7 @@ impl<const N: usize> FromText for HexArray<N> {
     }
 }
 
-/// Some bytes as one word of a line: their hex, and `-` where there are none.
+/// Bytes as one word of a line: their hex, or `-` if there are none.
 #[derive(Clone, Copy)]
 pub struct ByteField<'a>(pub &'a [u8]);
 
@@ -123,7 +123,7 @@ impl fmt::Display for ByteField<'_> {
 }
 
 /// The bytes whose word in a line this is. Any other text is refused as `BadMessage`, whether or
-/// not there is memory.
+/// not memory is available.
 pub fn read_field(alloc: Global, text: &str) -> Result<Vec<u8>, Refusal>
     ensures found { IfOk result (λ bytes. text.now ≡ field_text bytes.items) }
     ensures only { (bytes : List ℕ) → IsBytes bytes → text.now ≡ field_text bytes

@@ -25,7 +25,7 @@ impl fmt::Debug for Key {
 impl Key {
     ghost use Rattle.lw_types.specs.Hex.{key_text};
 
-    /// The 32 digits of the key, for where the key is to be seen.
+    /// The 32 digits of the key, for places that have to show the key.
     #[tactic(auto, unfolding(crate::specs::Hex::key_text))]
     pub fn reveal(&self, alloc: Global) -> Result<String, AllocError>
         ensures { IfOk result (λ text. string_bytes text ≡ key_text self.now) }

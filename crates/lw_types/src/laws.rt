@@ -43,27 +43,28 @@ pub fn each_text_is_a_word()
     ensures signed { (z : ℤ) → FitsSigned w16 z → IsWord (signed_decimal z) }
 {}
 
-/// A line is its words: these make it again, and the words that made a line are its words.
+/// A line is its words: joining a line's words gives the line again, and splitting a joined line
+/// gives its words.
 pub fn a_line_is_its_words()
     ensures line { (line : List ℕ) → line_of (words_of line) ≡ line }
     ensures words { (words : List (List ℕ)) → AreWords words → words_of (line_of words) ≡ words }
 {}
 
-/// The bytes of a frame are those that number at most 255.
+/// A list of bytes is a frame exactly if it has at most 255 bytes.
 pub fn frames_have_at_most_255_bytes(bytes: Vec<u8>) -> Result<PhyPayload, Vec<u8>>
     ensures { MatchResult result (λ _. length bytes.items ≤ 255) (λ _. 255 < length bytes.items) }
 {
     PhyPayload::new(bytes)
 }
 
-/// A payload's bytes are those that number at most 242.
+/// A list of bytes is a payload exactly if it has at most 242 bytes.
 pub fn payloads_have_at_most_242_bytes(bytes: Vec<u8>) -> Result<Payload, Vec<u8>>
     ensures { MatchResult result (λ _. length bytes.items ≤ 242) (λ _. 242 < length bytes.items) }
 {
     Payload::new(bytes)
 }
 
-/// The most bytes of a frame, and of its payload.
+/// The most bytes of a frame, and of a frame's payload.
 pub fn limits_are_these()
     ensures frame { LONGEST_FRAME ≡ 255 }
     ensures payload { LONGEST_PAYLOAD ≡ 242 }

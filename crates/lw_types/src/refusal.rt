@@ -1,4 +1,4 @@
-// What a call answers where it doesn't do what was asked, with the number that the outside sees.
+// Why a call doesn't do what was asked, with the number that texts and answers carry.
 ghost use Rattle.std.specs.Prelude.{◌≡◌};
 
 use std::alloc::{AllocError, AllocFailed};
@@ -8,89 +8,89 @@ use std::fmt;
 /// Why a call was refused. `number` gives the number that texts and answers carry.
 #[derive(Clone, Copy, Debug, PartialEq, Eq)]
 pub enum Refusal {
-    /// A frame's bytes are not in the grammar of TS001-1.0.4 §4, or a bit that is reserved isn't 0.
+    /// A frame's bytes don't fit the grammar of TS001-1.0.4 §4, or a reserved bit isn't 0.
     Malformed,
     /// A frame is neither a Join-Request nor an uplink.
     NotServed,
-    /// An uplink's address is that of no session.
+    /// No session has an uplink's address.
     UnknownDevAddr,
-    /// A Join-Request's MIC isn't its device's; or an uplink's counter isn't too far in a session
-    /// that has its address, and its MIC is right in none.
+    /// A Join-Request's MIC is wrong for its device. Or an uplink's MIC is right in no session,
+    /// although the counter is near enough in at least one session that has its address.
     BadMic,
     /// An uplink's counter is too far above the last one in each session that has its address.
     CounterGap,
-    /// An unconfirmed uplink comes again, under the last counter and with its MIC.
+    /// An unconfirmed uplink comes again, with the last counter and the same MIC.
     Repeat,
-    /// No device has the DevEUI of a Join-Request or of an application's request, or that device
-    /// is another application's.
+    /// No device has the DevEUI of a Join-Request or of an application's request, or the device
+    /// belongs to another application.
     UnknownDevEui,
-    /// A Join-Request has another JoinEUI than its device.
+    /// A Join-Request's JoinEUI isn't its device's.
     WrongJoinEui,
-    /// A Join-Request's DevNonce is not above the last one that was accepted of its device.
+    /// A Join-Request's DevNonce isn't above the last one that was accepted from its device.
     DevNonceUsed,
-    /// A Join-Request comes of a device that was granted the last JoinNonce, 16,777,215.
+    /// A Join-Request comes from a device that was granted the last JoinNonce, 16,777,215.
     JoinNonceSpent,
     /// An uplink has MAC commands in FOpts and is on port 0.
     MacBoth,
-    /// An item is to be queued for a device for which 16 items wait.
+    /// An item is to be queued for a device that already has 16 items waiting.
     QueueFull,
-    /// MAC commands are to be queued, and with them more than 128 bytes would wait.
+    /// MAC commands are to be queued, and more than 128 bytes would then wait.
     MacQueueFull,
     /// An item is to be queued whose payload has more than 242 bytes.
     TooLong,
     /// An item is to be queued for port 0 or a port above 223.
     BadPort,
-    /// A device is to be provisioned whose DevEUI a device has already.
+    /// A device is to be provisioned, but another device has its DevEUI.
     DevEuiTaken,
-    /// A device is to be provisioned where each slot has one.
+    /// A device is to be provisioned, but each slot has a device.
     TableFull,
-    /// The bytes to be queued are not one or more whole commands of LinkADRReq, DutyCycleReq and
-    /// DevStatusReq.
+    /// The bytes to be queued aren't one or more whole commands, each a LinkADRReq, a DutyCycleReq
+    /// or a DevStatusReq.
     BadMac,
-    /// A copy of a frame comes for which no window is open, and 1,024 windows are open.
+    /// A copy of a frame comes that no open window is for, and 1,024 windows are open.
     WindowsFull,
-    /// A copy of a frame comes by a gateway of which the frame's window has one.
+    /// A copy of a frame comes from a gateway of which the frame's window already has a copy.
     SameGateway,
-    /// A copy of a frame comes whose window has 32 copies.
+    /// A copy of a frame comes, and its window already has 32 copies.
     CopiesFull,
-    /// A command comes while 4,096 decisions wait to be taken, or where the last number, 2^63 - 1,
-    /// is used.
+    /// A command comes while 4,096 decisions wait to be taken, or after the last number, 2^63 - 1,
+    /// was used.
     Backlog,
-    /// A copy of a frame was heard on no channel, or at a data rate above 5; or a frame is on no
-    /// channel on which it is served.
+    /// A copy of a frame was heard on no channel, or at a data rate above 5; or a frame is on none
+    /// of the channels on which it is served.
     UnknownChannel,
-    /// A call needed memory and got none.
+    /// A call ran out of memory.
     OutOfMemory,
     /// The disk failed in this call.
     DeviceFailed,
-    /// The disk failed in an earlier call of this store, which has to be opened again.
+    /// The disk failed in an earlier call of this store. The store has to be opened again.
     Failed,
     /// A batch doesn't continue the durable table and its number.
     OutOfStep,
-    /// A disk is opened that doesn't begin with the open gate and the name of a store.
+    /// The disk to be opened doesn't begin with the open gate and the name of a store.
     NotFormatted,
-    /// The bytes of a store or of a record are not in the layout; a store is made of no slots or of
-    /// more than 4,096; or a checkpoint begins past the last generation.
+    /// The bytes of a store or of a record don't fit the layout; a store is to be made with no
+    /// slots or with more than 4,096; or a checkpoint is to begin after the last generation.
     Damaged,
-    /// A store is opened that has another version, or whose live area has.
+    /// The store to be opened, or its live area, has another version.
     WrongVersion,
-    /// A store is opened, or made, on a disk of another length than it has.
+    /// A store is opened, or made, on a disk whose length isn't the store's.
     WrongSize,
-    /// The length of a frame of a link is above 700, or a PHYPayload has more than 255 bytes.
+    /// A frame's length on a link is above 700, or a PHYPayload has more than 255 bytes.
     FrameTooLong,
-    /// What a link carries, a line, or a text of a join is none that there is.
+    /// The content of a frame on a link, a line, or a text of a join is not a valid message.
     BadMessage,
-    /// A link's bytes end inside a frame.
+    /// A link's bytes end in the middle of a frame.
     CutShort,
 }
 
 impl Refusal {
     ghost use Rattle.lw_types.specs.Refusal.{number_of, words_of};
 
-    /// The number of this refusal. 1 to 24 are of a command, which then leaves every device as it
-    /// was: the windows that were due are closed all the same, the effective time moves on to the
-    /// command's moment, and the refusal itself is an outcome. 30 is want of memory, 40 to 46 are
-    /// of the store, and 50 to 52 of wires and texts.
+    /// The number of this refusal. 1 to 24 are of commands. A refused command leaves every device
+    /// as it was; but windows that were due are still closed, the effective time still moves on to
+    /// the command's moment, and the refusal itself is an outcome. 30 is out of memory, 40 to 46
+    /// are of the store, and 50 to 52 are of links and texts.
     pub fn number(self) -> u8
         ensures { result ≡ number_of self }
     {
@@ -132,7 +132,7 @@ impl Refusal {
         }
     }
 
-    /// What this refusal says to a reader.
+    /// This refusal in words, for a person.
     #[tactic(auto, unfolding(crate::specs::Refusal::words_of))]
     pub fn words(self) -> &'static str
         ensures { result.now ≡ words_of self }

@@ -1,9 +1,9 @@
-// The words of a line, each parted from the next by exactly one space.
+// The words of a line, separated by exactly one space each.
 ghost use Rattle.std.specs.Prelude.{◌≡◌, ◌∷◌};
 ghost use Rattle.lw_types.specs.Words.{words_in, words_of};
 
-/// The words of a line that are left to read. Two spaces in a row have an empty word between them,
-/// so that a line is read back from its words.
+/// The words of a line that are left to read. Between two spaces in a row there is an empty word,
+/// so joining the words gives the line again.
 #[derive(Clone, Copy)]
 pub struct Words<'a> {
     rest: Option<&'a str>,
@@ -37,7 +37,7 @@ impl<'a> Iterator for Words<'a> {
     }
 }
 
-// The first word of a line and, where a space follows it, what follows the space.
+// The first word of a line and, if a space follows it, the rest after the space.
 fn first_word(line: &str) -> (&str, Option<&str>)
     ensures { words_of line.now ≡ result.0.now ∷ words_in result.1 }
 {

@@ -30,7 +30,7 @@ found_passes p (y ∷ xs) x e = by (λ later. found_passes p xs x later) (p y) r
 numbered : (number : ℕ) (cid : Cid) → cid_of number ≡ Some cid → cid_number cid ≡ number
 numbered number cid e = eqb-true (cid_number cid) number (found_passes (λ (c : Cid). cid_number c == number) known_cids cid e)
 
--- a whole command and the bytes behind it
+-- a whole command and the bytes after it
 abbrev Stands : Direction → List ℕ → MacCommand → List ℕ → Type 0
 Stands direction bytes command rest = IsWhole direction command × (bytes ≡ command_bytes command ++ rest)
 
@@ -94,11 +94,11 @@ no_front direction bytes e b =
 
 -- ---- the commands
 
--- these commands are read, and none begins behind them
+-- these commands are read, and no command begins after them
 abbrev Ends : Direction → List ℕ → List MacCommand → Type 0
 Ends direction bytes commands = (rest : List ℕ) × HasRead direction bytes commands rest × ¬ BeginsWhole direction rest
 
--- where the bytes behind the front are read to the end, so are all
+-- if the bytes after the front are read to the end, so are all bytes
 ends_behind : (read : List ℕ → List MacCommand) (direction : Direction) (bytes : List ℕ) → ((rest : List ℕ) → length rest < length bytes → Ends direction rest (read rest))
     → Ends direction bytes (and_behind read (front_in direction bytes))
 ends_behind read direction bytes behind = by (front_in direction bytes) refl
@@ -130,7 +130,7 @@ pub read_is : (direction : Direction) (bytes : List ℕ) (commands : List MacCom
 read_is direction bytes commands stop read =
     same_commands direction bytes commands (commands_in direction bytes) stop (length (spelling (commands_in direction bytes))) read (are_commands direction bytes)
 
--- the first command, and then those of the bytes behind it
+-- the first command, and then those of the bytes after it
 pub one_more : (direction : Direction) (bytes : List ℕ) → commands_in direction bytes ≡ and_behind (commands_in direction) (front_in direction bytes)
 one_more direction bytes =
     let end = ends_behind (commands_in direction) direction bytes (λ rest lt. all_end direction rest) in
@@ -205,7 +205,7 @@ cut_at queue room =
       | inr le ↦ ap (λ k. take k queue) (omega arith) ∙ (take-length queue ∙ sym (take_all room queue le))
     ]
 
--- what is read of a queue that is cut at the room
+-- what is read of a queue that is cut to the room
 pub is_fitting : (queue : List ℕ) (room k n : ℕ) (commands : List MacCommand) → k ≡ min (length queue) room → AreCommands Down (take k queue) commands n → n ≡ fitting_len queue room
 is_fitting queue room k n commands cut read =
     let all = take room queue in

@@ -13,7 +13,7 @@ use Rattle.mac_commands.specs.Reading.{commands_in, is_queue}
 use Rattle.mac_commands.proofs.CommandsIn.{are_commands, read_is}
 use Rattle.mac_commands.proofs.Reading.{HasRead, goes_on, no_more, none_begins, parted, read_to_the_end, reads_more}
 
--- commands that may be queued stand before the rest
+-- commands that may be queued come before the rest
 pub record HasQueued (bytes rest : List ℕ) : Type 0 where
   pub commands : List MacCommand
   pub read : HasRead Down bytes commands rest
@@ -54,7 +54,7 @@ not_queued bytes rest after command h whole e never q =
     let all : AllByRecursion IsQueueable ((h.commands ++ command ∷ []) ++ more.0) = subst (AllByRecursion IsQueueable) more.1 q.each in
     never (all_behind IsQueueable h.commands (command ∷ []) (all_front IsQueueable (h.commands ++ command ∷ []) more.0 all)).0
 
--- no command begins any more: all was read, or the bytes are no queue
+-- no further command begins: all was read, or the bytes are no queue
 pub all_queued : (bytes : List ℕ) → HasQueued bytes [] → AreQueueable bytes
 all_queued bytes h = record {
   commands = h.commands;
@@ -114,7 +114,7 @@ from_queue bytes q =
 pub is_queue_so : (bytes : List ℕ) → IsTrue (is_queue bytes) ↔ AreQueueable bytes
 is_queue_so bytes = (to_queue bytes, from_queue bytes)
 
--- a test that says the one says the other
+-- two tests that imply each other are equal
 pub tested : (bytes : List ℕ) (test : Bool) → (IsTrue test ↔ AreQueueable bytes) → test ≡ is_queue bytes
 tested bytes true is = sym (from_queue bytes (is.0 refl))
 tested bytes false is = by (is_queue bytes) refl

@@ -1,4 +1,4 @@
--- Commands are read from the front, one after another, in one way.
+-- Commands are read from the front, one after another, in only one way.
 use Rattle.std.proofs.Common.{◌≡◌, ℕ, ◌-◌, ◌≤◌, List, [], ◌∷◌, ◌++◌, length, take, drop, min, refl, sym, ap, ◌∙◌, append_assoc, subst, arith, Some}
 use Rattle.std.specs.List.{AllByRecursion}
 use Rattle.std.proofs.lemmas.Grind.{flat_map-append}
@@ -57,7 +57,7 @@ one_front direction c d x y whole_c whole_d e =
 
 -- ---- commands that were read
 
--- the commands are whole, and stand before the rest
+-- the commands are whole, and come before the rest
 pub record HasRead (direction : Direction) (bytes : List ℕ) (commands : List MacCommand) (rest : List ℕ) : Type 0 where
   pub whole : AllByRecursion (IsWhole direction) commands
   pub spelled : bytes ≡ spelling commands ++ rest
@@ -73,7 +73,7 @@ reads_more direction bytes rest after commands command read is e = record {
   spelled = read.spelled ∙ (ap (λ r. spelling commands ++ r) e ∙ (sym (append_assoc (spelling commands) (command_bytes command) after) ∙ ap (λ s. s ++ after) (flat_map_more command_bytes [] commands command)));
 }
 
--- where no command begins, reading stops
+-- if no command begins, reading stops
 pub is_read : (direction : Direction) (bytes rest : List ℕ) (commands : List MacCommand) → HasRead direction bytes commands rest → ¬ BeginsWhole direction rest
     → AreCommands direction bytes commands (length bytes - length rest)
 is_read direction bytes rest commands read none =
@@ -94,7 +94,8 @@ was_read direction bytes commands stop spells = record {
   spelled = sym (take-append-drop stop bytes) ∙ ap (λ s. s ++ drop stop bytes) spells.spelled;
 }
 
--- the commands of a reading that stopped where no command begins go on from those of any other
+-- the commands of a reading that stopped where no command begins are those of any other reading,
+-- and more
 abbrev GoesOn : List MacCommand → List MacCommand → List ℕ → List ℕ → Direction → Type 0
 GoesOn a b x y direction = (tail : List MacCommand) × (b ≡ a ++ tail) × (x ≡ spelling tail ++ y) × AllByRecursion (IsWhole direction) tail
 
@@ -146,7 +147,7 @@ take_take xs m n le within =
     let fits : m ≤ length (take n xs) = omega (arith, length-take-le n xs within) in
     sym (take-append-le m (take n xs) (drop n xs) fits) ∙ ap (take m) (take-append-drop n xs)
 
--- reading what of a queue fits gives the longest beginning
+-- reading as much of a queue as fits gives the longest beginning
 pub is_longest : (queue : List ℕ) (room k n : ℕ) (commands : List MacCommand) → k ≡ min (length queue) room → AreCommands Down (take k queue) commands n → IsLongestFit queue room n
 is_longest queue room k n commands cut read =
     let within : k ≤ length queue = omega arith in

@@ -6,7 +6,7 @@ use Rattle.lw_types.specs.declared.direction.Direction.TheVariants.{Down}
 use Rattle.mac_commands.specs.declared.command.MacCommand.{MacCommand}
 use Rattle.mac_commands.specs.Table.{cid_number, payload_len}
 
--- the payload has the length that the table gives
+-- the payload has the length that the table says
 abbrev pub IsWhole : Direction → MacCommand → Type 0
 IsWhole direction command = length command.payload ≡ payload_len direction command.cid
 
@@ -26,14 +26,13 @@ pub record Spells (direction : Direction) (bytes : List ℕ)
 abbrev pub AreWhole : Direction → List ℕ → Type 0
 AreWhole direction bytes = (commands : List MacCommand) × Spells direction bytes commands
 
--- a whole command stands at the front of the bytes
+-- a whole command is at the front of the bytes
 abbrev pub BeginsWhole : Direction → List ℕ → Type 0
 BeginsWhole direction bytes =
     (command : MacCommand) × (rest : List ℕ) × IsWhole direction command
     × (bytes ≡ command_bytes command ++ rest)
 
--- the bytes before `stop` spell the commands, and at `stop` the bytes end or no whole command
--- begins
+-- the bytes before `stop` spell the commands; at `stop` the bytes end, or no whole command begins
 pub record AreCommands (direction : Direction) (bytes : List ℕ) (commands : List MacCommand)
     (stop : ℕ) : Type 0 where
   pub within : stop ≤ length bytes

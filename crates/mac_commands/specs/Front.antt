@@ -8,7 +8,7 @@ use Rattle.mac_commands.specs.Commands.{IsWhole, command_bytes}
 abbrev pub front_command : Front → MacCommand
 front_command front = record { cid = front.cid; payload = front.payload.now }
 
--- the command is whole and stands at the front, before the rest
+-- the command is whole and comes first, before the rest
 pub record IsFront (direction : Direction) (bytes : List ℕ) (front : Front) : Type 0 where
   pub whole : IsWhole direction (front_command front)
   pub spelled : bytes ≡ command_bytes (front_command front) ++ front.rest.now

@@ -1,4 +1,4 @@
--- Which MAC commands an application may queue for a device, and what is a queue of them
+-- Which MAC commands an application may queue for a device, and what a queue of them is
 -- (TS001-1.0.4 §5).
 use Rattle.std.specs.Prelude.{◌≡◌, ℕ, Bool, false, true, List}
 use Rattle.std.specs.List.{AllByRecursion}
@@ -11,7 +11,7 @@ use Rattle.mac_commands.specs.declared.cid.Cid.TheVariants.{DeviceTime}
 use Rattle.mac_commands.specs.declared.command.MacCommand.{MacCommand}
 use Rattle.mac_commands.specs.Commands.{Spells}
 
--- LinkADRReq, DutyCycleReq and DevStatusReq; the network asks the others by itself, or not at all
+-- LinkADRReq, DutyCycleReq and DevStatusReq; the network sends the others by itself, or never
 abbrev pub may_be_queued : Cid → Bool
 may_be_queued LinkAdr = true
 may_be_queued DutyCycle = true
@@ -27,7 +27,7 @@ may_be_queued DeviceTime = false
 abbrev pub IsQueueable : MacCommand → Type 0
 IsQueueable command = may_be_queued command.cid ≡ true
 
--- the bytes are such commands as downlinks have them, each whole, one after another
+-- the bytes are such commands in their downlink form, each whole, one after another
 pub record AreQueueable (bytes : List ℕ) : Type 0 where
   pub commands : List MacCommand
   pub spelled : Spells Down bytes commands

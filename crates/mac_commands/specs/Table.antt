@@ -1,4 +1,4 @@
--- The MAC commands of class A devices (TS001-1.0.4 §5). No other is known.
+-- The MAC commands of class A devices (TS001-1.0.4 §5). Other commands are unknown.
 use Rattle.std.specs.Prelude.{ℕ}
 use Rattle.mac_commands.specs.declared.cid.Cid.{Cid}
 use Rattle.mac_commands.specs.declared.cid.Cid.TheVariants.{LinkCheck, LinkAdr, DutyCycle}
@@ -8,7 +8,7 @@ use Rattle.mac_commands.specs.declared.cid.Cid.TheVariants.{DeviceTime}
 use Rattle.lw_types.specs.declared.direction.Direction.{Direction}
 use Rattle.lw_types.specs.declared.direction.Direction.TheVariants.{Up, Down}
 
--- the identifier's byte, and the bytes of payload that follow it in an uplink and in a downlink
+-- the identifier's byte, and the lengths of the payload after it in an uplink and in a downlink
 pub record Row : Type 0 where
   pub number : ℕ
   pub up : ℕ

@@ -1,10 +1,10 @@
-// Which MAC commands there are.
+// The known MAC commands.
 ghost use Rattle.std.specs.Prelude.{◌≡◌, ◌≢◌, ◌≤◌, IfNone, IfSome};
 
 use crate::command::LONGEST_COMMAND_PAYLOAD;
 use lw_types::Direction;
 
-/// A command identifier. A request and its answer have the same one, in opposite directions.
+/// A command identifier. A request and its answer have the same identifier, in opposite directions.
 #[derive(Clone, Copy, PartialEq, Eq)]
 pub enum Cid {
     LinkCheck = 0x02,
@@ -25,14 +25,14 @@ impl Cid {
     ghost use Rattle.mac_commands.specs.Reading.{is_link_check_cid, is_reported_cid};
     ghost use Rattle.mac_commands.specs.Table.{cid_number, payload_len};
 
-    /// The byte that stands for the identifier.
+    /// The byte of the identifier.
     pub fn number(self) -> u8
         ensures { result ≡ cid_number self }
     {
         self as u8
     }
 
-    /// The identifier that a byte stands for, where one is known.
+    /// The identifier of a byte, if it is known.
     pub fn from_number(number: u8) -> Option<Self>
         ensures known { IfSome result (λ cid. cid_number cid ≡ number) }
         ensures unknown { IfNone result ((cid : Cid) → cid_number cid ≢ number) }
@@ -52,16 +52,16 @@ impl Cid {
         }
     }
 
-    /// Whether an application may queue the downlink command: LinkADRReq, DutyCycleReq and
-    /// DevStatusReq.
+    /// Whether an application may queue the downlink command. It may queue LinkADRReq, DutyCycleReq
+    /// and DevStatusReq.
     pub fn may_be_queued(self) -> bool
         ensures { result ≡ may_be_queued self }
     {
         matches!(self, Cid::LinkAdr | Cid::DutyCycle | Cid::DevStatus)
     }
 
-    /// Whether the uplink command is reported to the application: all but LinkCheckReq, which the
-    /// network answers, and DeviceTimeReq, which it passes over.
+    /// Whether the uplink command is reported to the application: all are, except LinkCheckReq,
+    /// which the network answers, and DeviceTimeReq, which it ignores.
     pub fn is_reported(self) -> bool
         ensures { result ≡ is_reported_cid self }
     {
@@ -75,8 +75,8 @@ impl Cid {
         matches!(self, Cid::LinkCheck)
     }
 
-    /// How many bytes of a MAC command's payload follow its identifier in a frame of this
-    /// direction, at most 5 (TS001-1.0.4 §5).
+    /// The number of bytes of a MAC command's payload, after its identifier, in a frame of this
+    /// direction: at most 5 (TS001-1.0.4 §5).
     pub fn payload_len(self, direction: Direction) -> usize
         ensures length { result ≡ payload_len direction self }
         ensures few { result ≤ LONGEST_COMMAND_PAYLOAD }

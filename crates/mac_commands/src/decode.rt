@@ -10,8 +10,8 @@ use crate::front::read_front;
 use lw_types::{Direction, Refusal};
 use std::alloc::Global;
 
-/// The MAC commands of an uplink, in its FOpts or its FRMPayload of port 0. Reading stops at an
-/// identifier that is not known and at a payload that is cut; the commands before it count.
+/// The MAC commands of an uplink, from its FOpts or from its FRMPayload on port 0. Reading stops at
+/// an unknown identifier or at a payload that is cut short; the commands before it count.
 pub fn decode_up(alloc: Global, bytes: &[u8]) -> Result<Decoded, Refusal>
     ensures read { IfOk result (λ d. AreCommands Up bytes.now d.commands.items d.stop) }
     ensures value { IfOk result (λ d. d.commands.items ≡ commands_in Up bytes.now) }

@@ -9,9 +9,9 @@ use crate::command::MacCommand;
 use lw_types::Refusal;
 use std::alloc::{AllocError, Global};
 
-/// Appends the bytes of commands, each its identifier and its payload. Commands whose payloads have
-/// their lengths in a downlink are read again by `decode_down`, all of them. For want of memory the
-/// call is refused as `OutOfMemory`, and then nothing is appended.
+/// Appends the bytes of commands, each its identifier and its payload. If the payloads have the
+/// lengths of downlink commands, `decode_down` reads all of them again. If memory runs out, the
+/// call is refused as `OutOfMemory` and nothing is appended.
 pub fn encode_down(alloc: Global, commands: &[MacCommand], out: &mut Vec<u8>) -> Result<(), Refusal>
     ensures ok { OnOk result (out.new.items ≡ out.old.items ++ spelling commands.now) }
     ensures read_again { AllByRecursion (IsWhole Down) commands.now

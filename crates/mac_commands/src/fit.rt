@@ -1,4 +1,4 @@
-// What of a queue of MAC commands a downlink has room for.
+// How much of a queue of MAC commands a downlink has room for.
 ghost use Rattle.std.specs.Prelude.{◌≡◌, List};
 ghost use Rattle.mac_commands.specs.declared.command.MacCommand.{MacCommand};
 ghost use Rattle.mac_commands.specs.Commands.{AreCommands, IsLongestFit};
@@ -7,9 +7,9 @@ ghost use Rattle.mac_commands.specs.Reading.{fitting_len};
 use crate::front::read_front;
 use lw_types::Direction;
 
-/// How many bytes of a queue of downlink commands, from its front and in whole commands, are
-/// piggybacked: fit the room that is left of the 15 bytes of FOpts (TS001-1.0.4 §4.3.1.6): as many
-/// as possible. Takes no memory.
+/// How many bytes from the front of a queue of downlink commands are piggybacked: the most, in
+/// whole commands, that fit into the room that is left of the 15 bytes of FOpts (TS001-1.0.4
+/// §4.3.1.6). Takes no memory.
 #[tactic(auto, using(crate::proofs::Reading::is_longest, crate::proofs::CommandsIn::is_fitting))]
 pub fn fit15(queue: &[u8], room: u8) -> usize
     ensures longest { IsLongestFit queue.now room result }
@@ -19,7 +19,7 @@ pub fn fit15(queue: &[u8], room: u8) -> usize
     whole_len(Direction::Down, &queue[..within])
 }
 
-/// How many bytes the whole commands of this direction at the front of some bytes are.
+/// The length in bytes of the whole commands of this direction at the front of some bytes.
 fn whole_len(direction: Direction, bytes: &[u8]) -> usize
     ensures { (commands : List MacCommand) × AreCommands direction bytes.now commands result }
 {

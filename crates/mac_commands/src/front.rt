@@ -8,7 +8,7 @@ use crate::command::{CommandPayload, LONGEST_COMMAND_PAYLOAD, MacCommand};
 use lw_types::Direction;
 use std::alloc::{AllocError, Global};
 
-/// A command that stands at the front of some bytes, and the bytes behind it.
+/// A command at the front of some bytes, and the bytes after it.
 #[derive(Clone, Copy)]
 pub(crate) struct Front<'a> {
     pub cid: Cid,
@@ -16,7 +16,7 @@ pub(crate) struct Front<'a> {
     pub rest: &'a [u8],
 }
 
-/// The whole command of this direction at the front of the bytes, where there is one.
+/// The whole command of this direction at the front of the bytes, if there is one.
 pub(crate) fn read_front(direction: Direction, bytes: &[u8]) -> Option<Front<'_>>
     ensures found { IfSome result (λ f. IsFront direction bytes.now f) }
     ensures few { IfSome result (λ f. length f.payload.now ≤ LONGEST_COMMAND_PAYLOAD) }
@@ -33,7 +33,7 @@ impl Front<'_> {
     ghost use Rattle.mac_commands.specs.Commands.{command_bytes};
     ghost use Rattle.mac_commands.specs.Front.{front_command};
 
-    /// The command with a payload of its own.
+    /// The command with a copy of the payload.
     pub fn command(self, alloc: Global) -> Result<MacCommand, AllocError>
         requires { length self.payload.now ≤ LONGEST_COMMAND_PAYLOAD }
         ensures { IfOk result (λ command. command ≡ front_command self.entry) }

@@ -8,7 +8,7 @@ ghost use Rattle.mac_commands.specs.Reading.{commands_in, fitting_len, is_queue,
 
 use crate::LONGEST_COMMAND_PAYLOAD;
 
-/// Bytes are read in one way: as one list of commands, up to one place.
+/// Bytes are read in only one way: as one list of commands, up to one place.
 pub fn bytes_are_read_in_one_way()
     ensures commands { (direction : Direction) (bytes : List ℕ) (a : List MacCommand)
         (b : List MacCommand) (m : ℕ) (n : ℕ)
@@ -18,7 +18,7 @@ pub fn bytes_are_read_in_one_way()
         → AreCommands direction bytes a m → AreCommands direction bytes b n → m ≡ n }
 {}
 
-/// Bytes are read as `commands_in` says, up to where these commands end.
+/// Bytes are read as `commands_in` says, up to the end of these commands.
 pub fn bytes_begin_with_these_commands()
     ensures { (direction : Direction) (bytes : List ℕ)
         → let commands = commands_in direction bytes in
@@ -30,14 +30,14 @@ pub fn what_is_reported_is_short()
     ensures { (bytes : List ℕ) → length (reported_bytes bytes) ≤ length bytes }
 {}
 
-/// What is written in whole commands is read again, all of it.
+/// Whole commands that were written are all read again.
 pub fn whole_commands_are_read_to_the_end()
     ensures { (direction : Direction) (bytes : List ℕ) (commands : List MacCommand)
         → Spells direction bytes commands → AreCommands direction bytes commands (length bytes) }
 {}
 
-/// Whole commands behind whole commands are whole commands, and so is what is left of whole
-/// commands where some of them are taken from the front.
+/// Whole commands followed by whole commands are whole commands. If whole commands are taken from
+/// the front of whole commands, the rest are whole commands.
 pub fn whole_commands_join_and_part()
     ensures join { (direction : Direction) (a : List ℕ) (b : List ℕ) (first : List MacCommand)
         (second : List MacCommand)
@@ -49,24 +49,24 @@ pub fn whole_commands_join_and_part()
         → (second : List MacCommand) × (all ≡ first ++ second) × Spells direction b second }
 {}
 
-/// `is_queue` finds the bytes that may be queued.
+/// `is_queue` is true exactly of the bytes that may be queued.
 pub fn queues_are_found()
     ensures { (bytes : List ℕ) → IsTrue (is_queue bytes) ↔ AreQueueable bytes }
 {}
 
-/// As many bytes of a queue as `fitting` says are the longest beginning in whole commands that fits
+/// The first `fitting_len` bytes of a queue are its longest beginning, in whole commands, that fits
 /// the room.
 pub fn what_fits_is_the_longest()
     ensures { (queue : List ℕ) (room : ℕ) → IsLongestFit queue room (fitting_len queue room) }
 {}
 
-/// What `fit15` takes from the front of a queue is a queue, and so is what it leaves.
+/// What `fit15` takes from the front of a queue is a queue, and so is the rest.
 pub fn what_fits_leaves_a_queue()
     ensures { (queue : List ℕ) (room n : ℕ) → AreQueueable queue → IsLongestFit queue room n
         → AreQueueable (take n queue) × AreQueueable (drop n queue) }
 {}
 
-/// The most bytes of a MAC command behind its identifier.
+/// The most bytes of a MAC command after its identifier.
 pub fn limits_are_these()
     ensures { LONGEST_COMMAND_PAYLOAD ≡ 5 }
 {}

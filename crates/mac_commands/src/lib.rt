@@ -1,5 +1,5 @@
-//! MAC commands as bytes (TS001-1.0.4 §5): read from an uplink or a downlink, written for a
-//! downlink, and chosen from a queue for the room that a downlink's FOpts has.
+//! MAC commands as bytes (TS001-1.0.4 §5): reading them from an uplink or a downlink, writing them
+//! for a downlink, and choosing from a queue those that fit a downlink's FOpts.
 #![tactic(auto)]
 
 mod cid;

@@ -7,7 +7,7 @@ use crate::front::read_front;
 use lw_types::Direction;
 
 /// Whether the bytes are whole commands that an application may queue for a device: LinkADRReq,
-/// DutyCycleReq and DevStatusReq, one after another. Takes no memory.
+/// DutyCycleReq and DevStatusReq, in any order. Takes no memory.
 pub fn are_queueable(bytes: &[u8]) -> bool
     ensures queue { IsTrue result ↔ AreQueueable bytes.now }
     ensures value { result ≡ is_queue bytes.now }

@@ -1,4 +1,4 @@
-// What the MAC commands of an uplink ask for, and what is reported of them.
+// What the MAC commands of an uplink ask for, and which of them are reported.
 ghost use Rattle.std.specs.Prelude.{◌≡◌, ◌≤◌, IfOk, length};
 ghost use Rattle.lw_types.specs.declared.payload.TheConstants.{LONGEST_PAYLOAD};
 ghost use Rattle.mac_commands.specs.Reading.{asks_link_check, reported_bytes};
@@ -7,9 +7,9 @@ use crate::front::read_front;
 use lw_types::{Direction, Payload};
 use std::alloc::{AllocError, Global};
 
-/// The commands in an uplink that are reported to its application, as bytes and in order: those at
-/// the front of its FOpts or of its FRMPayload of port 0, as `decode_up` reads them, without
-/// LinkCheckReq and DeviceTimeReq, which are asked of the network.
+/// The commands in an uplink that are reported to its application, as bytes and in order. They are
+/// read as by `decode_up`, from its FOpts or from its FRMPayload on port 0. LinkCheckReq and
+/// DeviceTimeReq are left out, since they are for the network.
 pub fn read_reported(alloc: Global, bytes: &[u8]) -> Result<Payload, AllocError>
     requires { length bytes.now ≤ LONGEST_PAYLOAD }
     ensures { IfOk result (λ told. told ≡ reported_bytes bytes.now) }

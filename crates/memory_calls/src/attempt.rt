@@ -1,19 +1,20 @@
-// How a call went, which may be refused once for want of memory.
+// The outcome of a call that may be refused once because memory ran out.
 use lw_types::Refusal;
 
-/// How a call went.
+/// The outcome of a call.
 #[derive(Clone, Copy)]
 pub enum Attempt {
-    /// It was answered as is due.
+    /// The answer was right.
     AtOnce,
-    /// It was refused for want of memory, all was as before, and it was answered as is due then.
+    /// It was refused because memory ran out, everything was as before, and then the answer was
+    /// right.
     Again,
     /// Neither.
     Otherwise,
 }
 
 impl Attempt {
-    /// Of a call that was answered, as is due or not.
+    /// Of a call that had an answer: whether it was right.
     pub fn at_once(is_due: bool) -> Self {
         if is_due {
             Attempt::AtOnce
@@ -22,8 +23,8 @@ impl Attempt {
         }
     }
 
-    /// Of a call that was refused for want of memory: whether all was as before, and whether the
-    /// same call was answered then as is due.
+    /// Of a call that was refused because memory ran out: whether everything was as before, and
+    /// whether the same call then had the right answer.
     pub fn again(is_as_before: bool, is_due: &Result<bool, Refusal>) -> Self {
         match is_due {
             Ok(true) if is_as_before => Attempt::Again,

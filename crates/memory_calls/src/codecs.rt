@@ -1,4 +1,5 @@
-// Calls that keep nothing: each is made again where it was refused, and has to answer as is due.
+// Calls that keep nothing: each is made again if it was refused, and its answer then has to be
+// right.
 use crate::attempt::Attempt;
 use backend_json::answer_text;
 use devices::{Application, Device, Provisioning, Rx1Offset, RxDelay};
@@ -66,8 +67,8 @@ pub fn refused(alloc: Global) -> Attempt {
     answered(alloc, Eui(1), UNKNOWN_DEVICE)
 }
 
-// The longest frame has so many bytes: an unconfirmed uplink on port 1, whose payload has 242 bytes
-// and is the rest, with its MIC.
+// The length of the longest frame: an unconfirmed uplink on port 1, whose payload has 242 bytes and
+// is the rest, with its MIC.
 const LONGEST: usize = 255;
 
 fn longest(alloc: Global) -> Result<Vec<u8>, Refusal> {
@@ -76,7 +77,7 @@ fn longest(alloc: Global) -> Result<Vec<u8>, Refusal> {
     Ok(bytes)
 }
 
-// Whether the bytes are written behind another one, or nothing is where memory is refused.
+// Whether the bytes are written after another one, or nothing is if memory runs out.
 fn is_written(alloc: Global, frame: &Phy, bytes: &[u8]) -> Result<bool, Refusal> {
     let mut out = read_hex(alloc, "07")?;
     match encode(alloc, frame, &mut out) {
@@ -131,7 +132,7 @@ const PAYLOAD: usize = 242;
 
 const ITEMS: usize = 16;
 
-// Adds the bytes of a text, and so many of this one behind them.
+// Appends the bytes of a text, and this number of bytes of this value.
 fn add(
     alloc: Global,
     bytes: &mut Vec<u8>,
@@ -177,7 +178,7 @@ fn largest_change(alloc: Global) -> Result<Vec<u8>, Refusal> {
     Ok(bytes)
 }
 
-// Whether a device has all of these, with so many items.
+// Whether a device has all of these, with this number of items.
 fn has_all(device: &Device, items: usize) -> bool {
     let (waiting, commands) = (device.items.as_slice(), device.mac_queue.as_slice());
     let is_filled = match waiting.last() {

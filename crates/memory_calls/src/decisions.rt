@@ -1,4 +1,4 @@
-// Calls of a core, and steps of a world that no script says.
+// Calls of a core, and steps of a world that no script has.
 ghost use Rattle.std.specs.Prelude.{IfOk};
 ghost use Rattle.disk.specs.MemDisk.{state_of};
 ghost use Rattle.world.specs.Sound.{IsSoundWorld};
@@ -13,7 +13,7 @@ use std::alloc::Global;
 use test_stores::devices_under_test::{net_id, new_table};
 use world::{Answer, Event, Step, World, run};
 
-// As many decisions as a batch may have.
+// The greatest number of decisions of a batch.
 const MOST: u64 = 64;
 
 fn bringing(dev_eui: u64) -> Result<Provisioning, Refusal> {
@@ -62,19 +62,19 @@ pub fn taken(alloc: Global) -> Result<Attempt, Refusal> {
     })
 }
 
-// A world with no device.
+// A world without devices.
 fn new_world(alloc: Global) -> Result<World<MemDisk>, Refusal>
     ensures { IfOk result (IsSoundWorld state_of) }
 {
     World::format(alloc, new_disk(alloc)?, net_id()?, SLOTS)
 }
 
-// How a step went that is to hand in one event.
+// The outcome of a step that has one event.
 #[derive(Clone, Copy)]
 enum Came {
-    // The event was answered, as is due or not.
+    // The event had an answer, right or not.
     Answered(bool),
-    // The event was handed in and refused: of it only its moment counts.
+    // The event was refused: only its moment counts.
     UsedUp(Refusal),
     // The step was refused.
     Refused(Refusal),
@@ -97,7 +97,7 @@ impl Came {
         }
     }
 
-    // Whether the event was answered as is due, or what it was refused.
+    // Whether the answer to the event was right, or its refusal.
     fn is_due(self) -> Result<bool, Refusal> {
         match self {
             Came::Answered(is_due) => Ok(is_due),
@@ -118,7 +118,7 @@ fn went_well(answers: &[Answer]) -> bool {
     true
 }
 
-// How a step went.
+// The outcome of a step.
 fn step(alloc: Global, world: &mut World<MemDisk>, last: &[Step]) -> Came
     requires { IsSoundWorld state_of world.old }
     ensures { IsSoundWorld state_of world.new }
@@ -129,8 +129,8 @@ fn step(alloc: Global, world: &mut World<MemDisk>, last: &[Step]) -> Came
     }
 }
 
-// Takes some steps, and then a last one. Where that was refused for want of memory it is taken once
-// more, and where its event was used up, the step that hands it in anew.
+// Takes some steps, and then a last one. If that was refused because memory ran out, it is taken
+// once more; if its event was used up, the step with a copy of the event is taken.
 fn stepped(
     alloc: Global,
     before: &[Step],
@@ -176,7 +176,7 @@ fn piece(alloc: Global, parts: &[&str]) -> Result<Vec<Step>, Refusal> {
     Ok(steps)
 }
 
-/// A piece of a link makes a gateway's copy whole.
+/// A piece of a link completes a gateway's copy.
 pub fn of_piece(alloc: Global) -> Result<Attempt, Refusal> {
     let before = piece(alloc, &[GREETING, FIRST])?;
     let (last, anew) = (piece(alloc, &[REST])?, piece(alloc, &[FIRST, REST])?);
@@ -204,7 +204,7 @@ fn hearing(alloc: Global, from: u16, to: u16) -> Result<Vec<Step>, Refusal> {
     Ok(steps)
 }
 
-/// A copy opens the last window that there may be.
+/// A copy opens the last window that is allowed.
 pub fn of_last_window(alloc: Global) -> Result<Attempt, Refusal> {
     let last = hearing(alloc, 1023, 1024)?;
     stepped(alloc, &hearing(alloc, 0, 1023)?, &last, &last)

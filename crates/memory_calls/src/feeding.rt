@@ -1,4 +1,4 @@
-// Bytes of a link in two pieces, of which the first ends in a frame.
+// Bytes of a link in two pieces, the first of which ends inside a frame.
 use crate::attempt::Attempt;
 use link_messages::{Fed, Feeder, Peer};
 use lw_types::{Eui, Refusal, read_hex};
@@ -10,7 +10,7 @@ const FIRST: &str =
 
 const REST: &str = "4900020001954378762B11FF0D";
 
-// Whether only this many messages were said, and no fault is behind them.
+// Whether exactly this number of messages were said, and no fault follows them.
 fn says(fed: &Fed, count: usize) -> bool {
     fed.messages.len() == count && fed.fault.is_none()
 }
@@ -39,7 +39,7 @@ fn fed(feeder: &mut Feeder, piece: &[u8], is_greeted: bool) -> Attempt {
     }
 }
 
-/// The first piece is fed, and the one behind it.
+/// The first piece is fed, and then the next one.
 pub fn pieces(alloc: Global) -> Result<[Attempt; 2], Refusal> {
     let (first, rest) = (read_hex(alloc, FIRST)?, read_hex(alloc, REST)?);
     let mut feeder = Feeder::new(alloc);

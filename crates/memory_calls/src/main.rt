@@ -1,8 +1,8 @@
-//! `memory_calls`: makes each public call that no script of `lns-sim` makes, or makes at its
-//! largest size, and tells of each whether its answer was the one that is due. A call that is
-//! refused for want of memory is made again, and has to find all as it was before. Where there is
-//! no memory for what the calls are made of, `refused 30` is all. `tools/sim-memory` plays it with
-//! each of its requests for memory refused in turn. The status is 1 where a write failed.
+//! `memory_calls` makes each public call that no script of `lns-sim` makes, or makes at its largest
+//! size, and prints for each whether its answer was right. A call that is refused because memory
+//! ran out is made again, and has to find everything as it was before. If there is no memory for
+//! the inputs of the calls, `refused 30` is the only line. `tools/sim-memory` runs it with each of
+//! its requests for memory refused in turn. The status is 1 if a write failed.
 #![tactic(auto)]
 
 mod attempt;
@@ -26,20 +26,20 @@ const NAMES: [&str; 17] = [
     "the largest record, read,",
     "the largest change, read,",
     "a piece of a link, which ends in a frame,",
-    "the piece behind it,",
+    "the piece after it,",
     "64 decisions, taken,",
     "a piece of a world's link",
     "a copy in the 1,024th window",
     "a store, made,",
     "a batch of 64 decisions, begun,",
-    "a batch behind one of 64, begun,",
+    "a batch after one of 64, begun,",
     "a checkpoint of 64 records, begun,",
     "a store of 64 records, opened,",
     "a store of an older program, taken over,",
     "a store of a copy of 64 records, restored,",
 ];
 
-// What came of each call, or that there was no memory for what they are made of.
+// The outcome of each call. Refused if there was no memory for the inputs of the calls.
 fn told_of(alloc: Global) -> Result<[Attempt; 17], Refusal> {
     let [piece, rest] = feeding::pieces(alloc)?;
     let [checkpoint, opening] = stores::checkpoint_and_opening(alloc)?;

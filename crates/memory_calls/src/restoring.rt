@@ -1,4 +1,4 @@
-// Stores of older programs and of older copies, each made again if memory was refused.
+// Stores of older programs and of older copies, each made again if memory ran out.
 use crate::attempt::Attempt;
 use crate::stores::{MOST, SLOTS, behind, is_untouched, new_disk, state};
 use devices::GrantsSince;
@@ -50,7 +50,7 @@ fn older(alloc: Global) -> Result<Table, Refusal> {
     }
 }
 
-/// A store is made of the table of an older copy.
+/// A store is made from the table of an older copy.
 pub fn restored(alloc: Global) -> Result<Attempt, Refusal> {
     let (table, same) = (older(alloc)?, older(alloc)?);
     Ok(match establish_back(alloc, new_disk(alloc)?, table, MOST) {

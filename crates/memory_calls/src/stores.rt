@@ -1,4 +1,4 @@
-// Calls of a store, each made again where it was refused for want of memory.
+// Calls of a store, each made again if it was refused because memory ran out.
 ghost use Rattle.disk.specs.MemDisk.{state_of};
 ghost use Rattle.store.specs.Commit.{IsUnderWay};
 ghost use Rattle.store.specs.Pairing.{IsRoomyBehind};
@@ -17,7 +17,7 @@ use test_stores::stores_under_test::{ALL, begin_checkpoint, begin_commit};
 /// The slots of these stores: more than the devices of a batch.
 pub const SLOTS: u64 = 80;
 
-/// As many decisions as a batch may have.
+/// The greatest number of decisions of a batch.
 pub const MOST: u64 = 64;
 
 /// A disk for such a store, which isn't empty.
@@ -26,7 +26,7 @@ pub fn new_disk(alloc: Global) -> Result<MemDisk, Refusal> {
     Ok(MemDisk::new(alloc, vec![in alloc; 0xA5; len]?)?)
 }
 
-/// How many devices a store has, and the number of its last decision.
+/// The number of devices of a store, and the number of its last decision.
 pub fn state(store: &Store<MemDisk>) -> (u64, u64) {
     (store.table().devices().len() as u64, store.seq())
 }
@@ -70,7 +70,7 @@ fn begin(alloc: Global, store: &mut Store<MemDisk>, batch: Batch) -> Result<bool
     }
 }
 
-// The largest batch of a new store, which it begins.
+// The largest batch of a new store, which begins it.
 fn begun_on(alloc: Global, store: &mut Store<MemDisk>) -> Result<Attempt, Refusal> {
     let batch = provisionings(alloc, store.table(), 0, MOST)?;
     let same = provisionings(alloc, store.table(), 0, MOST)?;
@@ -85,7 +85,7 @@ pub fn begun(alloc: Global) -> Result<Attempt, Refusal> {
     begun_on(alloc, &mut new_store(alloc)?)
 }
 
-// Begins a batch behind one whose gate is written, and gives it up.
+// Begins a batch after one whose gate is written, and gives it up.
 fn begin_next(
     alloc: Global,
     store: &Store<MemDisk>,
@@ -105,7 +105,8 @@ fn begin_next(
     }
 }
 
-// Commits a batch, with another one begun behind its open gate, once more where that was refused.
+// Commits a batch, with another one begun after its open gate. Tries that one once more if it was
+// refused.
 fn begun_behind(
     alloc: Global,
     store: &mut Store<MemDisk>,
@@ -137,7 +138,7 @@ fn begun_behind(
     })
 }
 
-/// The table behind a batch of a table without devices.
+/// The table after a batch of a table without devices.
 pub fn behind(table: &Table, batch: &Batch) -> Result<Table, Refusal> {
     let mut now = table.copy()?;
     for (seq, decision) in (0..u64::MAX).zip(batch.as_slice()) {
@@ -154,7 +155,7 @@ fn begun_next_on(alloc: Global, store: &mut Store<MemDisk>) -> Result<Attempt, R
     begun_behind(alloc, store, first, [next, same])
 }
 
-/// A batch is begun behind the largest one.
+/// A batch is begun after the largest one.
 pub fn begun_next(alloc: Global) -> Result<Attempt, Refusal> {
     begun_next_on(alloc, &mut new_store(alloc)?)
 }
@@ -170,7 +171,7 @@ fn checkpoint(alloc: Global, store: &Store<MemDisk>) -> Result<bool, Refusal> {
     }
 }
 
-// A checkpoint is begun behind the largest batch, and then made.
+// A checkpoint is begun after the largest batch, and then made.
 fn checkpointed(alloc: Global, store: &mut Store<MemDisk>) -> Result<Attempt, Refusal> {
     let batch = provisionings(alloc, store.table(), 0, MOST)?;
     begin_commit(alloc, store, batch, ALL)?;
@@ -182,7 +183,7 @@ fn checkpointed(alloc: Global, store: &mut Store<MemDisk>) -> Result<Attempt, Re
     Ok(told)
 }
 
-// A disk is opened, once more where that was refused.
+// A disk is opened, once more if that was refused.
 fn opened(alloc: Global, disk: MemDisk) -> Attempt {
     match open_back(alloc, disk) {
         Ok(store) => Attempt::at_once(state(&store) == (MOST, MOST)),

@@ -13,7 +13,7 @@ use Rattle.outbox.specs.declared.ends.Ended.{Ended}
 abbrev pub put_in : Outlet → List Effect
 put_in outlet = effects_of_all (sent outlet.producer)
 
--- for how many more there is known to be room
+-- for how many more effects room is known to exist
 abbrev pub room_of : Outlet → ℕ
 room_of outlet = known_free outlet.producer
 
@@ -25,7 +25,7 @@ taken_from inlet = effects_of_all (received inlet.consumer)
 abbrev pub seen_by : Inlet → List Effect
 seen_by inlet = effects_of_all (known_items inlet.consumer)
 
--- all that was ever put
+-- everything that was ever put
 abbrev pub all_put : Ended → List Effect
 all_put ended = effects_of_all (all_sent ended.finished)
 
@@ -42,7 +42,7 @@ Ends outlet ended =
 abbrev pub IsEndOf : Ended → Inlet → Type 0
 IsEndOf ended inlet = IsFinishedOf ended.finished inlet.consumer
 
--- an end stays that of its ring
+-- an end remains the end of its ring
 abbrev pub SameOutlet : Outlet → Outlet → Type 0
 SameOutlet old new = SameProducer old.producer new.producer
 

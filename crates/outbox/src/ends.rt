@@ -13,7 +13,7 @@ use rtrb::{Consumer, Finished, Producer, PushError, RingBuffer};
 use std::alloc::Global;
 
 /// The end at which effects are put into a ring. It takes a [`Released`] and no bare effect, so
-/// what goes in is durable.
+/// what is put in is durable.
 #[derive(Drop)]
 pub struct Outlet {
     producer: Producer<Released>,
@@ -31,8 +31,8 @@ pub struct Ended {
     finished: Finished<Released>,
 }
 
-/// A ring with room for so many effects. Refused with `OutOfMemory` for want of memory; no other
-/// call takes any.
+/// A ring with room for this number of effects. Refused with `OutOfMemory` if memory runs out. No
+/// other call takes memory.
 pub fn ring(alloc: Global, slots: usize) -> Result<(Outlet, Inlet), Refusal>
     ensures ends { IfOk result (λ r. AreEnds r.0 r.1) }
     ensures outlet { IfOk result (λ r. (put_in r.0 ≡ []) × (room_of r.0 ≡ slots)) }
@@ -44,8 +44,7 @@ pub fn ring(alloc: Global, slots: usize) -> Result<(Outlet, Inlet), Refusal>
 }
 
 impl Outlet {
-    /// Puts an effect into the ring, or gives it back where the ring is full, and then nothing is
-    /// changed.
+    /// Puts an effect into the ring. If the ring is full, returns the effect and changes nothing.
     pub fn put(&mut self, released: Released) -> Result<(), Released>
         ensures ring { SameOutlet self.old self.new }
         ensures put { OnOk result (put_in self.new ≡ put_in self.old ++ effect_of released ∷ []) }
@@ -59,7 +58,8 @@ impl Outlet {
         }
     }
 
-    /// Nothing more is put: the word says what was. `None` where the other end is gone.
+    /// Ends the putting: the returned word says what was put. Returns `None` if the other end has
+    /// been dropped.
     pub fn finish(self) -> Option<Ended>
         ensures { IfSome result (λ ended. Ends self ended) }
     {
@@ -85,8 +85,8 @@ impl Inlet {
         }
     }
 
-    /// Sees all that was put, where both ends stand in one thread: what was taken is a beginning of
-    /// it. In a server they stand in two, so that only tests look.
+    /// Sees everything that was put, if both ends are in one thread: what was taken is a beginning
+    /// of it. In a server the two ends are in two threads, so only tests use this.
     pub fn look(&mut self, outlet: &mut Outlet)
         requires { AreEnds outlet.old self.old }
         ensures ring { SameInlet self.old self.new × SameOutlet outlet.old outlet.new }
@@ -97,9 +97,10 @@ impl Inlet {
         let _ = self.consumer.slots_beside(&mut outlet.producer);
     }
 
-    /// Whether all that was put is taken, once nothing more is put. Where it is, what was taken is
-    /// what was put, in order, each once. It is for whoever has the word in the inlet's thread, as
-    /// tests: a server's sender, which has none, takes until [`Inlet::is_finished`].
+    /// Whether everything that was put has been taken, once nothing more is put. If so, what was
+    /// taken is what was put, in order, each effect once. It is for a caller that has the word in
+    /// the inlet's thread, for example a test. A server's sender doesn't have the word, and takes
+    /// until [`Inlet::is_finished`].
     pub fn is_drained(&mut self, ended: &mut Ended) -> bool
         requires { IsEndOf ended.old self.old }
         ensures ring { SameInlet self.old self.new × SameEnded ended.old ended.new }
@@ -112,8 +113,8 @@ impl Inlet {
         self.consumer.slots_after(&mut ended.finished) == 0
     }
 
-    /// Whether the other end is finished or gone; then nothing more is put. What it answers, and
-    /// when, is in no contract.
+    /// Whether the other end is finished or was dropped; then nothing more is put. No contract says
+    /// what it returns, and when.
     pub fn is_finished(&mut self) -> bool
         ensures ring { SameInlet self.old self.new }
         ensures same { taken_from self.new ≡ taken_from self.old }

@@ -1,4 +1,4 @@
-//! The ring between the flusher and the sender of a link: what is put into it may leave, and comes
+//! The ring between the flusher and the sender of a link. What is put into it may leave. It comes
 //! out in order, once.
 #![tactic(auto)]
 

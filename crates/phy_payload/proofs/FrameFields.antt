@@ -28,7 +28,7 @@ mic_field = seen_field (AreBytes 4) (λ bytes. bytes) (front_at 4) (front_field 
     (λ bytes h. (h, refl))
     (λ mic h. (mic.0, h, refl, refl))
 
--- a Join-Request behind its MHDR
+-- a Join-Request after its MHDR
 abbrev pub request_text : JoinRequest → List ℕ
 request_text r = to_le_bytes w64 r.join_eui.0 ++ (to_le_bytes w64 r.dev_eui.0 ++ (to_le_bytes w16 r.dev_nonce ++ r.mic.0))
 
@@ -167,7 +167,7 @@ pub message_again : (sent : Option PortPayload) → port_payload_of (port_and_pa
 message_again None = refl
 message_again (Some sent) = refl
 
--- what stands before the last four bytes, and these
+-- what comes before the last four bytes, and these
 pub mic_takes : (bytes : List ℕ) (parts : List ℕ × Mic) → IsBytes bytes → mic_off bytes ≡ Some parts
     → IsBytes parts.0 × IsMic parts.1 × (bytes ≡ parts.0 ++ parts.1.0) × (length parts.0 + 4 ≡ length bytes)
 mic_takes bytes parts fits e =

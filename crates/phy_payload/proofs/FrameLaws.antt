@@ -25,7 +25,7 @@ use Rattle.phy_payload.proofs.Lengths.{has_spelling}
 
 -- ---- data frames
 
--- a data frame behind its MHDR, before its MIC
+-- a data frame after its MHDR, before its MIC
 abbrev data_text : DataFrame → List ℕ
 data_text d = head_text (d.dev_addr.0, (f_ctrl d.control (length d.contents.f_opts), d.f_cnt)) ++ (d.contents.f_opts ++ port_and_payload d.contents.message)
 
@@ -82,7 +82,7 @@ data_again d h =
     (front_field (byte % 16)).again opts (port_and_payload d.contents.message) (h.contents.f_opts.0, sym ctrl.1) in
     rw (mic, head, control, cut, message_again d.contents.message) refl
 
--- ---- what stands behind an MHDR
+-- ---- what follows an MHDR
 
 abbrev done : {A : Type 0} → A → Result A Refusal
 done x = Ok x
@@ -181,7 +181,7 @@ phy_takes (first ∷ body) frame fits e =
       | inr h ↦ body_found first body frame (λ i. fits (suc i)) (ltb-false 254 (length body) h.0) h.1
     ]
 
--- what stands behind the MHDR of a data frame is read so
+-- what follows the MHDR of a data frame is read so
 data_body : (control : Control) (confirmed : Bool) (body : List ℕ) → body_at (mhdr (data_type control confirmed)) body ≡ or_malformed phy.DataFrame (data_at (dir_of control) confirmed body)
 data_body (Uplink adr request ack) true body = refl
 data_body (Uplink adr request ack) false body = refl
@@ -250,7 +250,7 @@ phy_refuses (first ∷ body) e h =
       | inr t ↦ no_frame first body e (ltb-false 254 (length body) t.0) t.1
     ]
 
--- ---- what reading answers
+-- ---- what reading returns
 
 pub is_found : (bytes : List ℕ) (r : Result Phy Refusal) → IsBytes bytes → ReadsFrame r (phy_at bytes) → IfOk r (λ frame. IsPhy bytes frame)
 is_found bytes (Ok frame) fits given = phy_takes bytes frame fits given

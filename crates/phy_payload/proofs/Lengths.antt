@@ -1,4 +1,4 @@
--- How long a frame is, and where its MIC stands.
+-- How long a frame is, and where its MIC is.
 use Rattle.std.proofs.Common.{◌≡◌, ℕ, ◌+◌, ◌-◌, ◌≤◌, List, ◌++◌, length, take, drop, Option, Some, None, ap, ◌∙◌, arith}
 use Rattle.std.proofs.lemmas.List.{drop_at, length-append, take_at}
 use Rattle.phy_payload.specs.declared.phy.Phy.{Phy}

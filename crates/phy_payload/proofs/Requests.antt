@@ -1,4 +1,4 @@
--- The bytes of a Join-Request, and where its fields stand.
+-- The bytes of a Join-Request, and where its fields are.
 use Rattle.std.proofs.Common.{◌≡◌, ℕ, ◌+◌, List, [], ◌∷◌, length, take, drop, Ok, refl, sym, ap, ◌∙◌, arith}
 use Rattle.std.specs.Int.{w16, w64, from_le_bytes}
 use Rattle.std.proofs.lemmas.List.{length-append, length-drop}

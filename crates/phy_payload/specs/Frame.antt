@@ -24,7 +24,7 @@ use Rattle.phy_payload.specs.Contents.{Carried, frm_payload_len}
 abbrev pub mhdr : ℕ → ℕ
 mhdr f_type = 32 * f_type
 
--- the FType of a data frame, which may be confirmed (§4.2.1)
+-- the FType of a data frame, confirmed or not (§4.2.1)
 abbrev pub data_type : Control → Bool → ℕ
 data_type (Uplink adr adr_ack_req ack) false = 2
 data_type (Downlink adr ack f_pending) false = 3
@@ -42,7 +42,7 @@ abbrev pub f_ctrl : Control → ℕ → ℕ
 f_ctrl (Uplink adr adr_ack_req ack) len = bit 128 adr + bit 64 adr_ack_req + bit 32 ack + len
 f_ctrl (Downlink adr ack f_pending) len = bit 128 adr + bit 32 ack + bit 16 f_pending + len
 
--- FPort and FRMPayload, where there is a port (§4.3.2, §4.3.3)
+-- FPort and FRMPayload, if there is a port (§4.3.2, §4.3.3)
 abbrev pub port_and_payload : Option PortPayload → List ℕ
 port_and_payload None = []
 port_and_payload (Some sent) = sent.f_port ∷ sent.frm_payload
@@ -55,7 +55,7 @@ request_mic_input r =
     mhdr 0 ∷ (to_le_bytes w64 r.join_eui.0
     ++ (to_le_bytes w64 r.dev_eui.0 ++ to_le_bytes w16 r.dev_nonce))
 
--- what stands behind the MHDR of a Join-Accept (§6.2.6)
+-- what follows the MHDR of a Join-Accept (§6.2.6)
 abbrev pub sealed_bytes : JoinAccept → List ℕ
 sealed_bytes (Short sealed) = sealed
 sealed_bytes (WithCfList sealed) = sealed
@@ -87,7 +87,7 @@ pub record IsJoinRequest (r : JoinRequest) : Type 0 where
   pub dev_nonce : r.dev_nonce < 2 ^ 16
   pub mic : IsMic r.mic
 
--- with the MHDR 17 bytes, or with a CFList 33
+-- 17 bytes with the MHDR, or 33 with a CFList
 abbrev pub IsJoinAccept : JoinAccept → Type 0
 IsJoinAccept (Short sealed) = IsBytes sealed × (length sealed ≡ 16)
 IsJoinAccept (WithCfList sealed) = IsBytes sealed × (length sealed ≡ 32)
@@ -107,7 +107,7 @@ pub record IsDataFrame (d : DataFrame) : Type 0 where
   pub contents : IsCarried d.contents
   pub mic : IsMic d.mic
 
--- a frame whose fields are in their ranges, as each frame of a program is
+-- a frame whose fields are in range, like each frame of a program
 abbrev pub FitsPhy : Phy → Type 0
 FitsPhy (phy.JoinRequest r) = IsJoinRequest r
 FitsPhy (phy.JoinAccept a) = IsJoinAccept a
@@ -119,13 +119,13 @@ FitsPhy (phy.DataFrame d) = IsDataFrame d
 abbrev pub IsPhy : List ℕ → Phy → Type 0
 IsPhy bytes frame = FitsPhy frame × (bytes ≡ spelling frame)
 
--- memory is taken for a data frame alone, for what it carries
+-- only a data frame takes memory, for what it carries
 abbrev pub TakesMemory : Phy → Type 0
 TakesMemory (phy.JoinRequest r) = ⊥
 TakesMemory (phy.JoinAccept a) = ⊥
 TakesMemory (phy.DataFrame d) = Unit {0}
 
--- these bytes are a frame for which memory is taken
+-- these bytes are a frame that takes memory
 abbrev pub IsSomePhyInMemory : List ℕ → Type 0
 IsSomePhyInMemory bytes = (frame : Phy) × IsPhy bytes frame × TakesMemory frame
 

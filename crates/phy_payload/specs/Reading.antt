@@ -1,5 +1,5 @@
--- Reading a frame from left to right. That it gives back what is spelled, and nothing else, is the
--- law `reading_is_the_grammar`.
+-- Reading a frame from left to right. The law `reading_is_the_grammar` says that it gives exactly
+-- what was spelled.
 use Rattle.std.specs.Prelude.{◌≡◌, ℕ, ◌-◌, ◌/◌, ◌%◌, Bool, false, true, List, [], ◌∷◌, length, take}
 use Rattle.std.specs.Prelude.{drop, nat_lt, ◌==◌, if◌then◌else◌, Option, Some, None, Result, Ok}
 use Rattle.std.specs.Prelude.{Err, MatchResult}
@@ -24,9 +24,9 @@ use Rattle.phy_payload.specs.declared.data_frame.DataFrame.{DataFrame}
 use Rattle.phy_payload.specs.Contents.{carried_contents}
 use Rattle.phy_payload.specs.Frame.{mhdr, TakesMemory}
 
--- ---- what a function answers
+-- ---- what a function returns
 
--- A function answers what is wanted; where that is a frame for which it takes memory, it may answer
+-- A function returns what is wanted. If that is a frame that takes memory, it may return
 -- OutOfMemory instead.
 abbrev pub ReadsFrame : Result Phy Refusal → Result Phy Refusal → Type 0
 ReadsFrame (Ok frame) wanted = wanted ≡ Ok frame
@@ -59,7 +59,7 @@ accept_at body =
 abbrev pub is_set : ℕ → ℕ → Bool
 is_set byte value = byte / value % 2 == 1
 
--- the bits of FCtrl, where the one that is RFU is 0
+-- the bits of FCtrl, if the one that is RFU is 0
 abbrev pub control_of : Direction → ℕ → Option Control
 control_of Up byte =
     if is_set byte 16
@@ -74,7 +74,7 @@ abbrev pub port_payload_of : List ℕ → Option PortPayload
 port_payload_of [] = None
 port_payload_of (port ∷ payload) = Some (record { f_port = port; frm_payload = payload })
 
--- the last four bytes, behind what stands before them
+-- the last four bytes, after what comes before them
 abbrev pub mic_off : List ℕ → Option (List ℕ × Mic)
 mic_off bytes =
     if nat_lt (length bytes) 4
@@ -100,7 +100,7 @@ contents_at confirmed control head mic bytes =
     }
     )
 
--- what stands behind the MHDR of a data frame
+-- what follows the MHDR of a data frame
 unfoldable pub data_at : Direction → Bool → List ℕ → Option DataFrame
 data_at direction confirmed body =
     mic_off body >>= λ parts. fhdr_at parts.0 >>= λ head. control_of direction head.0.1.0
@@ -108,7 +108,7 @@ data_at direction confirmed body =
 
 -- ---- frames
 
--- what stands behind an MHDR
+-- what follows an MHDR
 abbrev pub body_at : ℕ → List ℕ → Result Phy Refusal
 body_at first body =
     if first == mhdr 0 then or_malformed phy.JoinRequest (whole request_at body)

@@ -1,4 +1,4 @@
--- Frames over the bytes of which they were read.
+-- Frames that refer to the bytes they were read from.
 use Rattle.std.specs.Prelude.{◌≡◌, Option, Some, None, Result, Ok, Err, MatchResult}
 use Rattle.lw_types.specs.declared.refusal.Refusal.{Refusal}
 use Rattle.lw_types.specs.declared.refusal.Refusal.TheVariants.{OutOfMemory}
@@ -10,13 +10,13 @@ use Rattle.phy_payload.specs.declared.phy.Phy.{Phy}
 use Rattle.phy_payload.specs.declared.phy.Phy.TheVariants as phy
 use Rattle.phy_payload.specs.Frame.{TakesMemory}
 
--- a port with its payload, whoever owns the bytes
+-- a port with its payload, whether it refers to bytes or owns them
 abbrev pub seen_message : Option PortPayloadRef → Option PortPayload
 seen_message None = None
 seen_message (Some sent) =
     Some (record { f_port = sent.f_port; frm_payload = sent.frm_payload.now })
 
--- a frame, whoever owns its bytes
+-- a frame, whether it refers to its bytes or owns them
 abbrev pub phy_of : PhyRef → Phy
 phy_of (seen.JoinRequest request) = phy.JoinRequest request
 phy_of (seen.JoinAccept accept) = phy.JoinAccept accept
@@ -26,7 +26,7 @@ abbrev pub phy_read : Result PhyRef Refusal → Result Phy Refusal
 phy_read (Ok frame) = Ok (phy_of frame)
 phy_read (Err refusal) = Err refusal
 
--- the frame, in memory where it takes some
+-- the frame, unless memory runs out for one that takes some
 abbrev pub OwnsFrame : Phy → Result Phy Refusal → Type 0
 OwnsFrame wanted result =
     MatchResult result (λ frame. frame ≡ wanted) (λ e. (e ≡ OutOfMemory) × TakesMemory wanted)

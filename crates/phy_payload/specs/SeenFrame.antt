@@ -1,4 +1,4 @@
--- A data frame over the bytes of which it was read.
+-- A data frame that refers to the bytes it was read from.
 use Rattle.std.specs.Prelude.{◌+◌, ◌≤◌, length}
 use Rattle.phy_payload.specs.declared.data_frame.DataFrame.{DataFrame}
 use Rattle.phy_payload.specs.declared.frame_ref.DataFrameRef.TheInside.{Inside}

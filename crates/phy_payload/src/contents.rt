@@ -12,18 +12,18 @@ pub const LONGEST_F_OPTS: usize = 15;
 /// MAC commands in the frame's header, of at most 15 bytes.
 pub type FOpts = Bytes<LONGEST_F_OPTS>;
 
-/// The payload of a frame with a port, encrypted as on air, of at most 242 bytes.
+/// The payload of a frame with a port, encrypted as it is on air, at most 242 bytes.
 pub type FrmPayload = Payload;
 
-/// A port and the payload for it. On port 0 these are MAC commands.
+/// A port and its payload. On port 0 the payload is MAC commands.
 #[derive(Clone, PartialEq, Eq, Drop)]
 pub struct PortPayload {
     pub f_port: u8,
     pub frm_payload: FrmPayload,
 }
 
-/// FOpts and, where there is a port, FPort and FRMPayload. FOpts and FRMPayload have at most 242
-/// bytes together, so that the frame has at most 255.
+/// FOpts and, if there is a port, FPort and FRMPayload. FOpts and FRMPayload have at most 242 bytes
+/// together, so the frame has at most 255.
 #[derive(PartialEq, Eq, Drop)]
 pub struct Contents {
     f_opts: FOpts,
@@ -63,7 +63,7 @@ impl Contents {
         self.f_opts.as_slice()
     }
 
-    /// FPort and FRMPayload, where there is a port.
+    /// FPort and FRMPayload, if there is a port.
     pub fn message(&self) -> Option<&PortPayload>
         ensures message { option_copied result ≡ self.now.message }
         ensures fits { length self.now.f_opts + frm_payload_len self.now.message ≤ LONGEST_PAYLOAD }

@@ -12,12 +12,12 @@ const ADR_ACK_REQ: u8 = 0x40;
 const ACK: u8 = 0x20;
 
 const F_PENDING: u8 = 0x10;
-// Of class B alone in an uplink, and RFU in a downlink: 0 here.
+// Used only by class B in an uplink, and RFU in a downlink: always 0 here.
 const UP_UNUSED: u8 = 0x10;
 
 const DOWN_UNUSED: u8 = 0x40;
 
-/// The direction of a data frame, and what its FCtrl says there.
+/// The direction of a data frame, and the bits of its FCtrl in this direction.
 #[derive(Clone, Copy, PartialEq, Eq)]
 pub enum Control {
     /// From the device to the network.
@@ -35,7 +35,7 @@ pub enum Control {
         adr: bool,
         /// The last confirmed uplink was received.
         ack: bool,
-        /// More waits for the device.
+        /// More downlinks wait for the device.
         f_pending: bool,
     },
 }
@@ -54,7 +54,7 @@ fn bit(value: u8, is_set: bool) -> u8
 }
 
 impl Control {
-    /// The bits of an FCtrl; `None` where the bit is set that is unused in this direction.
+    /// The bits of an FCtrl; `None` if the bit that is unused in this direction is set.
     pub(crate) fn of(direction: Direction, f_ctrl: u8) -> Option<Self>
         ensures { result ≡ control_of direction f_ctrl }
     {

@@ -1,4 +1,4 @@
-// Frames that were read, over the bytes of which they were read.
+// Frames that refer to the bytes they were read from.
 ghost use Rattle.std.specs.Prelude.{◌≡◌, ◌+◌, ◌≤◌, length, MatchResult};
 ghost use Rattle.lw_types.specs.declared.refusal.Refusal.TheVariants.{OutOfMemory};
 ghost use Rattle.phy_payload.specs.Contents.{carried_contents, frm_payload_len};
@@ -14,14 +14,14 @@ use lw_types::{DevAddr, LONGEST_PAYLOAD, Refusal};
 use std::alloc::Global;
 use std::marker::Model;
 
-/// A port and the payload for it, where they were read.
+/// A port and its payload, in the bytes they were read from.
 #[derive(Clone, Copy)]
 pub struct PortPayloadRef<'a> {
     pub f_port: u8,
     pub frm_payload: &'a [u8],
 }
 
-/// A data frame whose FOpts and FRMPayload stand in the bytes of which it was read. In contracts it
+/// A data frame whose FOpts and FRMPayload stay in the bytes they were read from. In contracts it
 /// is the [`DataFrame`].
 #[derive(Drop)]
 pub struct DataFrameRef<'a> {
@@ -30,7 +30,7 @@ pub struct DataFrameRef<'a> {
     pub(crate) control: Control,
     pub(crate) f_cnt: u16,
     pub(crate) f_opts: &'a [u8],
-    // Nothing, or FPort and FRMPayload.
+    // Empty, or FPort and FRMPayload.
     pub(crate) behind: &'a [u8],
     pub(crate) mic: Mic,
 }
@@ -55,7 +55,7 @@ impl<'a> DataFrameRef<'a> {
         self.confirmed
     }
 
-    /// The session that it is of.
+    /// The address of its session.
     pub fn dev_addr(&self) -> DevAddr
         ensures { result ≡ self.now.dev_addr }
     {
@@ -84,7 +84,7 @@ impl<'a> DataFrameRef<'a> {
         self.f_opts
     }
 
-    /// FPort and FRMPayload, where there is a port.
+    /// FPort and FRMPayload, if there is a port.
     pub fn message(&self) -> Option<PortPayloadRef<'a>>
         ensures message { seen_message result ≡ self.now.contents.message }
         ensures fits { length self.now.contents.f_opts + frm_payload_len self.now.contents.message
@@ -104,7 +104,7 @@ impl<'a> DataFrameRef<'a> {
         self.mic
     }
 
-    /// The frame in memory of its own. For want of memory it is refused as `OutOfMemory`.
+    /// The frame in newly allocated memory. If memory runs out, it is refused as `OutOfMemory`.
     pub fn to_frame(&self, alloc: Global) -> Result<DataFrame, Refusal>
         ensures { MatchResult result (λ frame. frame ≡ self.now) (λ e. e ≡ OutOfMemory) }
     {
@@ -136,7 +136,7 @@ fn contents_from(alloc: Global, f_opts: &[u8], behind: &[u8]) -> Result<Contents
     Ok(Contents::new(FOpts::from_slice(alloc, f_opts)?, message))
 }
 
-/// A frame (TS001-1.0.4 §4.2.1) over the bytes of which it was read.
+/// A frame (TS001-1.0.4 §4.2.1) that refers to the bytes it was read from.
 #[derive(Drop)]
 pub enum PhyRef<'a> {
     JoinRequest(JoinRequest),
@@ -145,7 +145,7 @@ pub enum PhyRef<'a> {
 }
 
 impl<'a> PhyRef<'a> {
-    /// The frame in memory of its own, which only a data frame takes. For want of memory it is
+    /// The frame in memory of its own. Only a data frame takes memory. If memory runs out, it is
     /// refused as `OutOfMemory`.
     pub fn to_phy(&self, alloc: Global) -> Result<Phy, Refusal>
         ensures { OwnsFrame (phy_of self.now) result }

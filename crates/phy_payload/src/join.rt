@@ -12,7 +12,7 @@ pub struct JoinRequest {
 }
 
 /// The network's answer to a Join-Request (TS001-1.0.4 §6.2.6). All but its first byte is sealed
-/// under the AppKey, and it is kept so.
+/// under the AppKey, and stored sealed.
 #[derive(Clone, Copy, PartialEq, Eq)]
 pub enum JoinAccept {
     /// The fields and their MIC.

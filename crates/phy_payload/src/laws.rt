@@ -1,4 +1,4 @@
-//! Laws of frames and their bytes. Each stands on a function that does nothing.
+//! Laws of frames and their bytes. Each is the contract of a function that does nothing.
 ghost use Rattle.std.specs.Prelude.{◌≡◌, ◌∷◌, ◌-◌, ◌≤◌, [], List, ℕ, drop, length, take};
 ghost use Rattle.std.specs.Int.{from_le_bytes, w16, w64};
 ghost use Rattle.lw_types.specs.Hex.{IsBytes};
@@ -28,7 +28,7 @@ pub fn frames_are_short()
     ensures most { (bytes : List ℕ) (frame : Phy) → IsPhy bytes frame → length bytes ≤ 255 }
 {}
 
-/// The message of which the MIC of a data frame is made has at most 251 bytes.
+/// The message over which a data frame's MIC is made has at most 251 bytes.
 #[tactic(auto, using(crate::proofs::Lengths::message_len))]
 pub fn mic_inputs_are_short(frame: &DataFrame)
     ensures { length (data_mic_input frame.now) ≤ 251 }
@@ -36,7 +36,7 @@ pub fn mic_inputs_are_short(frame: &DataFrame)
     let _ = frame.contents.message();
 }
 
-/// So has that of a data frame over the bytes of which it was read.
+/// The same for a data frame that refers to the bytes it was read from.
 #[tactic(auto, using(crate::proofs::Lengths::message_len))]
 pub fn read_mic_inputs_are_short(frame: &DataFrameRef<'_>)
     ensures { length (data_mic_input frame.now) ≤ 251 }
@@ -44,8 +44,8 @@ pub fn read_mic_inputs_are_short(frame: &DataFrameRef<'_>)
     let _ = frame.message();
 }
 
-/// The last four bytes of a data frame or of a Join-Request are its MIC, and those before them the
-/// message that the MIC is made of.
+/// The last four bytes of a data frame or of a Join-Request are its MIC. The bytes before them are
+/// the message over which the MIC is made.
 pub fn a_mic_stands_behind_its_input()
     ensures requests { (bytes : List ℕ) (r : JoinRequest) → IsPhy bytes (Phy.JoinRequest r)
         → (take (length bytes - 4) bytes ≡ request_mic_input r)
@@ -55,15 +55,15 @@ pub fn a_mic_stands_behind_its_input()
         × (drop (length bytes - 4) bytes ≡ d.mic.0) }
 {}
 
-/// Reading from left to right gives a frame exactly where the bytes are that frame.
+/// Reading from left to right gives a frame exactly if the bytes are that frame.
 pub fn reading_is_the_grammar()
     ensures read { (bytes : List ℕ) (frame : Phy) → IsBytes bytes → phy_at bytes ≡ Ok frame
         → IsPhy bytes frame }
     ensures spelled { (bytes : List ℕ) (frame : Phy) → IsPhy bytes frame → phy_at bytes ≡ Ok frame }
 {}
 
-/// The Join-Requests are the 23 bytes whose MHDR is 0. Their fields are JoinEUI (8), DevEUI (8),
-/// DevNonce (2) and MIC (4), low bytes first (TS001-1.0.4 §4.2, §6.2.5).
+/// The Join-Requests are the strings of 23 bytes whose MHDR is 0. Their fields are JoinEUI (8),
+/// DevEUI (8), DevNonce (2) and MIC (4), low bytes first (TS001-1.0.4 §4.2, §6.2.5).
 pub fn a_join_request_has_23_bytes()
     ensures shape { (bytes : List ℕ) (r : JoinRequest) → IsPhy bytes (Phy.JoinRequest r)
         → (length bytes ≡ 23) × (take 1 bytes ≡ 0 ∷ []) }

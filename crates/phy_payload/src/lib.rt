@@ -1,5 +1,5 @@
-//! The frames of LoRaWAN 1.0.4 and their bytes, the PHYPayload (TS001-1.0.4 §4): each frame has one
-//! spelling, and no two share one.
+//! The frames of LoRaWAN 1.0.4 and their bytes, the PHYPayload (TS001-1.0.4 §4). Each frame has
+//! exactly one spelling, and no two frames share one.
 #![tactic(auto)]
 
 mod contents;

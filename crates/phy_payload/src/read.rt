@@ -57,7 +57,7 @@ fn read_join_accept(body: &[u8]) -> Option<JoinAccept>
     }
 }
 
-// What stands before FOpts.
+// What comes before FOpts.
 #[derive(Clone, Copy)]
 struct FrameHead {
     dev_addr: DevAddr,
@@ -110,8 +110,8 @@ fn read_data(direction: Direction, confirmed: bool, body: &[u8]) -> Result<PhyRe
 
 /// Reads a frame from its bytes, which are all of the PHYPayload (TS001-1.0.4 §4). Takes no memory.
 ///
-/// What is no frame is refused as `NotServed` where it has 1 to 255 bytes and an MHDR of FType 6 or
-/// 7 whose RFU bits and Major are 0, else as `Malformed`.
+/// Bytes that are no frame are refused as `NotServed` if there are 1 to 255 of them and their MHDR
+/// has FType 6 or 7, with RFU bits and Major 0; otherwise as `Malformed`.
 #[tactic(auto, unfolding(crate::specs::Reading::phy_at))]
 pub fn read_phy(bytes: &[u8]) -> Result<PhyRef<'_>, Refusal>
     ensures { phy_read result ≡ phy_at bytes.now }
@@ -148,19 +148,20 @@ fn read_owned(alloc: Global, bytes: &[u8]) -> Result<Phy, Refusal>
     }
 }
 
-/// Reads a frame into memory of its own, which only a data frame takes. What is no frame is refused
-/// as [`read_phy`] refuses it, whether or not there is memory; for want of memory a data frame is
-/// refused as `OutOfMemory`.
+/// Reads a frame into memory of its own. Only a data frame takes memory. Bytes that are no frame
+/// are refused as [`read_phy`] refuses them, whether or not memory is available. If memory runs
+/// out, a data frame is refused as `OutOfMemory`.
 pub fn decode(alloc: Global, bytes: &[u8]) -> Result<Phy, Refusal>
-    // These bytes are the frame that is read.
+    // If a frame is returned, these bytes are that frame.
     ensures found { IfOk result (λ frame. IsPhy bytes.now frame) }
-    // The frame that these bytes are is read, unless memory runs out for it.
+    // If these bytes are a frame, it is returned, unless memory runs out.
     ensures only { (frame : Phy) → IsPhy bytes.now frame
         → MatchResult result (λ found. found ≡ frame) (λ e. (e ≡ OutOfMemory) × TakesMemory frame) }
-    // Memory runs out only for a frame that takes some, and else the bytes decide.
+    // Memory runs out only for a frame that takes some. Any other refusal depends on the bytes
+    // alone.
     ensures refused { IfErr result
         (λ e. ((e ≡ OutOfMemory) × IsSomePhyInMemory bytes.now) ⊎ (e ≡ refusal_of bytes.now)) }
-    // What reading from left to right gives is answered, but where memory runs out for it.
+    // The answer is what reading from left to right gives, unless memory runs out for it.
     ensures reads { ReadsFrame result (phy_at bytes.now) }
 {
     read_owned(alloc, bytes)

@@ -99,7 +99,7 @@ fn put_contents(out: &mut Vec<u8>, contents: &Contents) -> Result<(), AllocError
     Ok(())
 }
 
-// All of a data frame but its MIC.
+// All of a data frame except its MIC.
 fn put_data_message(out: &mut Vec<u8>, frame: &DataFrame) -> Result<(), AllocError>
     ensures written { OnOk result (out.new.items ≡ out.old.items ++ data_mic_input frame.now) }
     ensures dev_addr { OnOk result (frame.now.dev_addr.0 < 2 ^ 32) }
@@ -136,9 +136,9 @@ fn put_frame(out: &mut Vec<u8>, frame: &Phy) -> Result<(), AllocError>
     }
 }
 
-/// Appends the message of a data frame, which is what its MIC is made of: all of its bytes but the
-/// last four. They are at most 251. The MIC that the frame has isn't looked at. For want of memory
-/// it is refused as `OutOfMemory`, and then nothing is appended.
+/// Appends the message of a data frame, over which its MIC is made: all of its bytes except the
+/// last four, at most 251. The frame's own MIC isn't used. If memory runs out, the call is refused
+/// as `OutOfMemory` and nothing is appended.
 pub fn encode_mic_input(alloc: Global, frame: &DataFrame, out: &mut Vec<u8>) -> Result<(), Refusal>
     ensures written { MatchResult result
         (λ _. out.new.items ≡ out.old.items ++ data_mic_input frame.now)
@@ -152,8 +152,8 @@ pub fn encode_mic_input(alloc: Global, frame: &DataFrame, out: &mut Vec<u8>) -> 
     Ok(())
 }
 
-/// Appends the bytes of a frame, its one spelling of 12 to 255 bytes. For want of memory it is
-/// refused as `OutOfMemory`, and then nothing is appended.
+/// Appends the bytes of a frame, its one spelling of 12 to 255 bytes. If memory runs out, the call
+/// is refused as `OutOfMemory` and nothing is appended.
 pub fn encode(alloc: Global, frame: &Phy, out: &mut Vec<u8>) -> Result<(), Refusal>
     ensures { MatchResult result
         (λ _. IsPhy (spelling frame.now) frame.now

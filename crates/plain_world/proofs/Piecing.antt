@@ -54,7 +54,7 @@ at_first s moment is_open = (is_open, (λ others h. h, λ others. refl))
 open_right : (b : Bool) (X Y : Type 0) → b ≡ true → MatchBool b X Y → X
 open_right b X Y is h = subst (λ b. MatchBool b X Y) is h
 
--- one event more
+-- one more event
 one_more : (s : PlainState) (c : Course) (moment : ℕ) (told : List EventTurn) (event : Event) (turn : Turn) (closings : ℕ) (next : PlainState)
     → Leads s moment told c → Goes (at_course s c) (EventStep moment event) (TurnAnswer turn closings) next
     → (next ≡ at_course s next.course) × Leads s moment (told ++ record { event = event; turn = turn; closings = closings } ∷ []) next.course

@@ -1,4 +1,4 @@
--- Windows found anew.
+-- Windows computed anew.
 use Rattle.std.proofs.Common.{◌≡◌, ◌∙◌, ◌<◌, ◌+◌, ℕ, true, cond, List, [], ◌∷◌, ◌++◌, drop, get_or, length, Result, Ok, Err, ap, sym, refl, ◌||◌}
 use Rattle.std.specs.Prelude.{nat_le}
 use Rattle.std.specs.List.{list_any}

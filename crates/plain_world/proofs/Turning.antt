@@ -29,7 +29,7 @@ some_is_none e h = cc
 same_refusal : (f e : Refusal) → ◌≡◌ {A = Option Refusal} (Some e) (Some f) → f ≡ e
 same_refusal f e h = cc
 
--- what is wanted may be answered, whether the command is frugal or not
+-- what is wanted is a right answer, whether the command is frugal or not
 exact_ok : {A B : Type 0} (frugal : Bool) (x : A) (y : B) (Is : A → B → Type 0) → Is x y
     → MatchBool frugal (Answers (Ok x) Is (Ok y)) (AnswersWithMemory (Ok x) Is (Ok y))
 exact_ok true x y Is h = h
@@ -47,13 +47,13 @@ decides command (Ok s) (Some e) h = absurd (some_is_none e h)
 decides command (Err e) None h = absurd (some_is_none e (sym h))
 decides command (Err f) (Some e) h = exact_err (is_frugal command (Err f)) f e (λ _ _. Unit {0}) (same_refusal f e h)
 
--- where there is no room, Backlog is wanted
+-- if there is no room, Backlog is wanted
 is_full : (origin : Origin) (c : Course) (command : Command) (refused : Option Refusal) → IsRefusal (step_if_room origin c command) refused
     → has_room origin c ≡ false → refused ≡ Some Backlog
 is_full origin c command refused h no_room =
     subst (λ outcome. IsRefusal outcome refused) (ap (λ b. cond b (step (table_from origin (decided_commands c)) command) (Err Backlog)) no_room) h
 
--- a command is answered so
+-- a command has this answer
 pub is_asked : (origin : Origin) (c : Course) (command : Command) (refused : Option Refusal) → IsRefusal (step_if_room origin c command) refused
     → IsAsked origin c command refused
 is_asked origin c command refused h =
@@ -64,7 +64,7 @@ pub stays : (c : Course) (command : Command) (outcome : Result TableStep Refusal
 stays c command (Ok s) e h = absurd (some_is_none e h)
 stays c command (Err f) e h = refl
 
--- one that isn't is decided
+-- one that isn't refused is decided
 pub goes_on : (c : Course) (command : Command) (outcome : Result TableStep Refusal) → IsRefusal outcome None
     → after_command c command outcome ≡ record c { untaken = c.untaken ++ command ∷ []; made = c.made + 1 }
 goes_on c command (Ok s) h = refl
@@ -86,7 +86,7 @@ answered (Ok ws) (Some e) is = absurd (some_is_none e is)
 answered (Err f) None is = absurd (some_is_none f (sym is))
 answered (Err f) (Some e) is = inr (ap Err (same_refusal f e is))
 
--- one on a channel is answered as the windows have it
+-- one on a channel has the answer that the windows give
 pub is_heard : (c : Course) (copy : FrameCopy) (refused : Option Refusal) → IsReceivable copy.reception
     → refused ≡ result_err (windows_with (course_windows c) c.clock copy) → IsCopyAnswer c copy refused
 is_heard c copy refused fine is =
@@ -119,7 +119,7 @@ shut_at s n = at_course s (with_closings n (after_commands s.origin s.course (du
 abbrev pub own_at : PlainState → Event → Option Refusal → PlainState
 own_at s event refused = at_course s (own_after s.origin s.course event refused)
 
--- an event that closes them all does its own then
+-- an event that closes them all then does its own
 turned_is : (origin : Origin) (c : Course) (moment : ℕ) (event : Event) (refused : Option Refusal) (due : List Command) → due_frames (at_moment c moment) ≡ due
     → own_after origin (with_closings (length due) (after_commands origin (at_moment c moment) due)) event refused ≡ after_event origin c moment event refused (length due)
 turned_is origin c moment (events.Hear copy) refused due is =
@@ -163,7 +163,8 @@ goes_at s moment event refused is_open due is k shut right =
     } in
     (when_open s.course.is_open _ _ is_open turn, (tt, ap (at_course s) whole))
 
--- the effective time is reached, the windows that are due are closed, and the event's own is done
+-- the effective time is reached, the windows that are due are closed, and then the event itself is
+-- taken
 pub goes : (s0 s1 s2 s3 : PlainState) (moment : ℕ) (event : Event) (refused : Option Refusal) (from to closings : ℕ) → s0.course.is_open ≡ true
     → s1 ≡ at_course s0 (at_moment s0.course moment)
     → closings ≡ length (due_frames s1.course) → s2 ≡ shut_at s1 closings

@@ -1,4 +1,4 @@
--- A world told plainly.
+-- A model of a world.
 use Rattle.std.specs.Prelude.{◌≡◌, ◌++◌, ℕ, Bool, List, map, [], ◌∷◌, if◌then◌else◌, Option, Some}
 use Rattle.std.specs.Prelude.{None, Result, MatchResult, true, false, length, take}
 use Rattle.lw_types.specs.declared.refusal.Refusal.{Refusal}
@@ -62,8 +62,8 @@ checkpoint_of (ways.Batches first second) = NotUnderWay
 checkpoint_of (ways.Checkpoint n) = CallsLeft n
 checkpoint_of ways.FailedCheckpoint = CallFailed
 
--- a step has a right answer, which is foretold, and the course after it is the one that the answer
--- tells
+-- a step has a right answer, which is foretold, and the course after it is the one that follows
+-- from the answer
 abbrev pub Goes : PlainState → Step → Answer → PlainState → Type 0
 Goes old step answer new =
     IsRight old.origin old.course step answer
@@ -85,7 +85,7 @@ GoesThrough old moment events turns new =
     × (AreTurns old.origin old.course moment turns
     × (new ≡ at_course old (after_events old.origin old.course moment turns)))
 
--- and so have those that a piece of a link's bytes hands in
+-- and so have the events of a piece of a link's bytes
 abbrev pub GoesPiece : PlainState → ℕ → ℕ → List ℕ → List EventTurn → Option Refusal → PlainState
     → Type 0
 GoesPiece old link moment bytes turns fault new =
@@ -94,19 +94,19 @@ GoesPiece old link moment bytes turns fault new =
     × (new ≡ at_course old (after_events old.origin
     (with_piece old.course link bytes) moment turns)))
 
--- the course after an event's own, once the windows that are due are closed
+-- the course after the event itself, once the windows that are due are closed
 abbrev pub own_after : Origin → Course → Event → Option Refusal → Course
 own_after origin c (events.Hear copy) refused = after_copy copy refused c
 own_after origin c events.Tick refused = c
 own_after origin c (events.Ask command) refused =
     after_commands origin c (take (own_count refused) (command ∷ []))
 
--- why a command that is to get this is not decided, if it is not
+-- why a command that gets this isn't decided, if it isn't
 abbrev pub IsRefusal : Result TableStep Refusal → Option Refusal → Type 0
 IsRefusal outcome refused = MatchResult outcome (λ _. refused ≡ None) (λ e. refused ≡ Some e)
 
--- what a crash leaves: the durable batches, and with the one behind them whose gate may be open, or
--- without it
+-- what a crash leaves: the durable batches, with or without the one after them whose gate may be
+-- open
 abbrev pub left_at : Stage → List Command → List Command → List Command → List Command
 left_at Durable there doubtful gone = there
 left_at GateWritten there doubtful gone = doubtful
@@ -122,8 +122,8 @@ left_of flew settled (flight ∷ flights) =
 abbrev pub kept_with : Bool → Course → List Command
 kept_with flew c = left_of flew c.settled c.flights
 
--- what a take or a checkpoint is answered behind a batch, or beside a checkpoint; nothing where
--- neither is under way
+-- the answer to a take or a checkpoint after a batch, or beside a checkpoint; nothing if neither is
+-- under way
 abbrev pub IsBusyBeside : Checkpoint → Option Answer → Type 0
 IsBusyBeside checkpoint None = checkpoint ≡ NotUnderWay
 IsBusyBeside checkpoint (Some answer) = Beside checkpoint ⊥ answer
@@ -136,14 +136,14 @@ abbrev pub IsBusy : List (Flight Command) → Checkpoint → Option Answer → T
 IsBusy [] checkpoint answer = IsBusyBeside checkpoint answer
 IsBusy (flight ∷ flights) checkpoint answer = IsBusyBehind (last_stage flight flights) answer
 
--- whether there is a device call to make
+-- whether a device call has to be made
 abbrev pub HasCall : Bool → List (Flight Command) → Checkpoint → Type 0
 HasCall true flights checkpoint =
     AnswersCall flights checkpoint answers.Called
     × AnswersCall flights checkpoint (answers.Refused DeviceFailed)
 HasCall false flights checkpoint = AnswersCall flights checkpoint answers.Idle
 
--- the effects of these commands leave, so many, and they are settled
+-- the effects of these commands leave, in this number, and the commands are settled
 abbrev pub Settles : PlainState → List Command → PlainState → ℕ → Type 0
 Settles old commands new count =
     (count ≡ length (effects_of (table_from old.origin old.course.settled) commands))
@@ -152,7 +152,7 @@ Settles old commands new count =
       left = old.course.left ++ effects_of (table_from old.origin old.course.settled) commands;
     }))
 
--- a second batch is begun behind the first
+-- a second batch is begun after the first
 abbrev pub IsFollowed : PlainUnderWay → PlainFlight → PlainUnderWay → Type 0
 IsFollowed (ways.Batch first) second result = result ≡ ways.Batches first second
 IsFollowed other second result = result ≡ other

@@ -1,4 +1,4 @@
-// What is begun, as the model has it.
+// What is begun, in the model.
 use devices::Command;
 
 /// How far the commit of a batch is.
@@ -25,9 +25,9 @@ pub struct PlainFlight {
 pub enum PlainUnderWay {
     Nothing,
     Batch(PlainFlight),
-    /// A batch, and one behind it.
+    /// A batch, and one after it.
     Batches(PlainFlight, PlainFlight),
-    /// A checkpoint, of which so many device calls are left.
+    /// A checkpoint, of which this number of device calls are left.
     Checkpoint(u64),
     /// A checkpoint of which a device call failed.
     FailedCheckpoint,
@@ -69,7 +69,7 @@ impl PlainUnderWay {
     ghost use Rattle.world.specs.Course.{checkpoint_after_call, checkpoint_after_failure};
     ghost use Rattle.plain_world.specs.Plain.{IsFollowed, checkpoint_of, flights_of};
 
-    /// With a second batch behind the one that is begun.
+    /// The same with a second batch after the one that is begun.
     pub fn followed_by(self, second: PlainFlight) -> Self
         ensures { IsFollowed self second result }
     {
@@ -80,7 +80,7 @@ impl PlainUnderWay {
     }
 
     /// After a device call that succeeded. The gate of a batch waits while the body of the one
-    /// behind it is written, and then one call syncs both.
+    /// after it is written, and then one call syncs both.
     pub fn called(self) -> Self
         ensures flights { flights_of result ≡ all_succeeded (flights_of self) }
         ensures checkpoint { checkpoint_of result ≡ checkpoint_after_call (checkpoint_of self) }

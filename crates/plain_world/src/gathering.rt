@@ -1,4 +1,4 @@
-// The windows in which copies gather, found anew from all copies that were accepted.
+// The windows in which copies gather, computed anew from all copies that were accepted.
 ghost use Rattle.std.specs.Prelude.{◌≡◌, ◌++◌, ◌∷◌, ℕ, suc, filter, map, not, IfOk};
 ghost use Rattle.std.specs.Result.{result_err};
 ghost use Rattle.devices.specs.Heard.{has_gateway, with_hearing};
@@ -66,7 +66,7 @@ impl PlainArrival {
     }
 }
 
-/// A frame's copies, and when the first came.
+/// A frame's copies, and the time of the first.
 #[derive(Drop)]
 pub struct PlainWindow {
     opened: u64,
@@ -121,7 +121,7 @@ impl PlainWindow {
         }))
     }
 
-    // Why it refuses one copy more, if it does.
+    // Why it refuses one more copy, if it does.
     fn refusal(&self, copy: &FrameCopy) -> Option<Refusal>
         ensures { result ≡ result_err (with_hearing self.now.hearings (hearing_of copy.now)) }
     {
@@ -157,7 +157,7 @@ pub fn course_windows(alloc: Global, arrivals: &[PlainArrival]) -> Result<Vec<Pl
     Ok(windows)
 }
 
-// Adds the window of the first copy, and gives the copies that didn't join it.
+// Adds the window of the first copy, and returns the copies that didn't join it.
 fn gather_first(
     alloc: Global,
     arrivals: &[PlainArrival],
@@ -218,8 +218,8 @@ pub fn due_frames(
     Ok(frames)
 }
 
-/// Why these windows refuse a copy, if they do: the window of its bytes does, or there is none and
-/// no room for one.
+/// Why these windows refuse a copy, if they do: the window of its bytes refuses it, or no such
+/// window exists and there is no room for one.
 pub fn refusal_by(windows: &[PlainWindow], copy: &FrameCopy) -> Option<Refusal>
     ensures { (now : ℕ) → result ≡ result_err (windows_with windows.now now copy.now) }
 {

@@ -1,4 +1,4 @@
-// Steps that are letters, and scripts that are words of them.
+// Steps that are letters, and scripts that are words made of these letters.
 use crate::steps::step_of;
 use lw_types::Refusal;
 use std::alloc::Global;
@@ -57,7 +57,7 @@ fn step_of_letter(alloc: Global, script: u32, letter: char) -> Result<Step, Refu
     Err(Refusal::Damaged)
 }
 
-/// Adds the steps of these letters to those of a script.
+/// Appends the steps of these letters to those of a script.
 pub fn add_letters(
     alloc: Global,
     steps: &mut Vec<Step>,
@@ -70,7 +70,7 @@ pub fn add_letters(
     Ok(())
 }
 
-/// Adds a script: its opening, two steps, and its end.
+/// Appends a script: its opening, two steps, and its end.
 pub fn add_script(
     alloc: Global,
     steps: &mut Vec<Step>,

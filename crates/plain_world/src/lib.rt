@@ -1,5 +1,5 @@
-//! A model of worlds whose contract is the definition, told plainly, and scripts of letters for it.
-//! It is of use to tests alone.
+//! A simple model of worlds, whose contract is the definition, and scripts of letters for it. Only
+//! tests use it.
 #![tactic(auto)]
 
 mod answers;

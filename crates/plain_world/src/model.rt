@@ -1,5 +1,5 @@
-// The world told plainly: whole lists of commands and of copies, and the table and the windows made
-// anew from all of them each time that they are wanted.
+// The model of a world: whole lists of commands and of copies. The table and the windows are
+// computed anew from all of them each time that they are needed.
 ghost use Rattle.std.specs.Prelude.{◌≡◌, ◌≢◌, ◌++◌, ◌∷◌, ℕ, [], true, length, Err, IfOk, IfErr};
 ghost use Rattle.std.specs.Prelude.{MatchResult};
 ghost use Rattle.lw_types.specs.declared.refusal.Refusal.TheVariants.{OutOfMemory};
@@ -32,8 +32,8 @@ use std::marker::Model;
 use std::mem;
 use world::{Answer, Event, EventTurn, Step};
 
-/// A world told plainly. Contracts see where its course begins, the course, and what is known of
-/// the disk's calls. Want of memory ends it, so that no batch is given up.
+/// A model of a world. Contracts see where its course begins, the course, and what is known of the
+/// disk's calls. It ends if memory runs out, so no batch is given up.
 #[derive(Drop)]
 pub struct Plain {
     net_id: NetId,
@@ -49,15 +49,15 @@ pub struct Plain {
     arrivals: Vec<PlainArrival>,
     shut: usize,
     pieces: Vec<PlainPiece>,
-    // Whether the next device call fails, and how many have failed.
+    // Whether the next device call fails, and the number of calls that have failed.
     armed: bool,
     failures: u64,
-    // Whether the gate that was written last is open on the disk, as written and as synced, and
-    // whether it may be anything, since a write of it was tried and no sync came behind.
+    // Whether the gate that was written last is open on the disk, as written and as synced; and
+    // whether it may be anything, since a write of it was tried and no sync followed.
     gate_written: bool,
     gate_synced: bool,
     gate_in_doubt: bool,
-    // The same of the gate of the area that isn't live, after an opening.
+    // The same for the gate of the area that isn't live, after an opening.
     other_written: bool,
     other_synced: bool,
     other_in_doubt: bool,
@@ -127,7 +127,7 @@ impl Plain {
         }
     }
 
-    /// One step. An `Err` is want of memory, and then the model is of no use.
+    /// Takes one step. An `Err` means that memory ran out, and then the model can't be used.
     pub fn step(&mut self, alloc: Global, step: &Step) -> Result<Answer, Refusal>
         ensures { IfOk result (λ answer. Goes self.old step.now answer self.new) }
     {
@@ -157,7 +157,7 @@ impl Plain {
         }
     }
 
-    // The windows that are due are closed, and then the event's own is done.
+    // Closes the windows that are due, and then takes the event itself.
     fn event(
         &mut self,
         alloc: Global,
@@ -180,7 +180,7 @@ impl Plain {
         Ok((turn, closings))
     }
 
-    // A piece of a link's bytes comes: the events that it hands in, one after another.
+    // A piece of a link's bytes comes: its events, one after another.
     fn piece(
         &mut self,
         alloc: Global,
@@ -236,7 +236,7 @@ impl Plain {
         self.clock = self.clock.max(moment.get());
     }
 
-    // The frames of all windows that are due are handed in; gives how many.
+    // Takes the frames of all windows that are due, and returns their number.
     fn close_due(&mut self, alloc: Global) -> Result<usize, Refusal>
         ensures count { IfOk result (λ count. count ≡ length (due_frames self.old.course)) }
         ensures course { IfOk result (λ count. self.new
@@ -251,7 +251,7 @@ impl Plain {
         Ok(count)
     }
 
-    // The event's own; gives why it is refused, if it is.
+    // Takes the event itself, and returns why it is refused, if it is.
     fn own(&mut self, alloc: Global, event: &Event) -> Result<Option<Refusal>, Refusal>
         ensures right { IfOk result
             (λ refused. IsOwnRight self.old.origin self.old.course event.now refused) }
@@ -279,7 +279,7 @@ impl Plain {
         Ok(refused)
     }
 
-    // Why a copy is not kept, if it is not.
+    // Why a copy isn't kept, if it isn't.
     fn deaf_to(&self, alloc: Global, copy: &FrameCopy) -> Result<Option<Refusal>, Refusal>
         ensures { IfOk result (λ refused. IsCopyAnswer self.now.course copy.now refused) }
     {
@@ -299,7 +299,7 @@ impl Plain {
         Ok(windows.split_off(shut)?)
     }
 
-    // Hands in these commands, one after another.
+    // Takes these commands, one after another.
     fn admit_all(&mut self, alloc: Global, commands: &[Command]) -> Result<(), Refusal>
         ensures { IfOk result (λ _. self.new
             ≡ at_course self.old (after_commands self.old.origin self.old.course commands.now)) }
@@ -328,7 +328,7 @@ impl Plain {
         }
     }
 
-    // Why the command is not decided, if it is not.
+    // Why the command isn't decided, if it isn't.
     fn why_not(&self, alloc: Global, command: &Command) -> Result<Option<Refusal>, Refusal>
         ensures { IfOk result (λ refused. IsRefusal
             (step_if_room self.now.origin self.now.course command.now) refused) }
@@ -341,7 +341,7 @@ impl Plain {
         refusal_on(alloc, &table, command)
     }
 
-    // What a take or a checkpoint is answered while something is under way or has failed.
+    // The answer to a take or a checkpoint while something is under way or has failed.
     fn busy(&self) -> Option<Answer>
         ensures { IsBusy self.now.course.flights self.now.course.checkpoint result }
     {
@@ -358,7 +358,7 @@ impl Plain {
         }
     }
 
-    // A checkpoint begins. It closes the other area's gate first where that is open.
+    // A checkpoint begins. It first closes the other area's gate if that is open.
     fn checkpoint(&mut self) -> Answer
         requires { self.old.course.is_open ≡ true }
         ensures { Goes self.old steps.Checkpoint result self.new }
@@ -393,7 +393,7 @@ impl Plain {
         Ok(Answer::Taken(count))
     }
 
-    // A batch is taken behind one whose gate is written and not synced.
+    // A batch is taken after one whose gate is written and not synced.
     fn next(&mut self, most: Most) -> Result<Answer, Refusal>
         requires { self.old.course.is_open ≡ true }
         ensures { IfOk result (λ answer. Goes self.old (steps.Next most) answer self.new) }
@@ -415,7 +415,7 @@ impl Plain {
         Ok(Answer::Taken(count))
     }
 
-    // The model ends where the disk would count no more failures.
+    // The model ends when the disk would count no more failures.
     fn fail(&mut self) -> Result<Answer, Refusal>
         requires { self.old.course.is_open ≡ true }
         ensures { IfOk result (λ answer. Goes self.old steps.Fail answer self.new) }
@@ -448,7 +448,7 @@ impl Plain {
         Ok(Answer::Called)
     }
 
-    // Whether there is a device call to make.
+    // Whether a device call has to be made.
     fn has_call(&self) -> bool
         ensures { HasCall result self.now.course.flights self.now.course.checkpoint }
     {
@@ -466,8 +466,8 @@ impl Plain {
     }
 
     // The gates that the next device call writes or syncs. A gate stays as it is while the body
-    // behind it is written. Where two calls of a checkpoint are left the new area's gate is
-    // written, and the old one stays open; where six are, the other one is closed.
+    // after it is written. If two calls of a checkpoint are left the new area's gate is written,
+    // and the old one stays open; if six are, the other one is closed.
     fn move_gates(&mut self)
         ensures { self.new ≡ self.old }
     {
@@ -493,7 +493,7 @@ impl Plain {
         }
     }
 
-    // The gate that the next device call writes may be anything where that fails.
+    // The gate that the next device call writes may be anything if that call fails.
     fn doubt_gates(&mut self)
         ensures { self.new ≡ self.old }
     {
@@ -529,7 +529,7 @@ impl Plain {
         }
     }
 
-    // The effects of a batch leave, and its commands are settled. Gives how many effects.
+    // The effects of a batch leave, and its commands are settled. Returns the number of effects.
     fn settle(&mut self, alloc: Global, flight: PlainFlight) -> Result<usize, Refusal>
         ensures { IfOk result (Settles self.old flight.commands.items self.new) }
     {
@@ -567,7 +567,7 @@ impl Plain {
         })
     }
 
-    // The opening after it reads the disk, so that a failure that is armed comes there.
+    // The opening after it reads the disk, so an armed failure comes there.
     fn crash(&mut self, alloc: Global, image: &Image) -> Result<Answer, Refusal>
         ensures { IfOk result (λ answer. Goes self.old (steps.Crash image.now) answer self.new) }
     {
@@ -604,7 +604,7 @@ impl Plain {
         })
     }
 
-    // Whether a crash leaves the gate open of the area that isn't live.
+    // Whether a crash leaves the gate of the area that isn't live open.
     fn is_other_left_open(&self, image: &Image) -> bool {
         match image {
             Image::Old => self.other_synced,
@@ -655,7 +655,7 @@ impl Plain {
         Ok(all)
     }
 
-    // The table that these commands leave of the one that was formatted.
+    // The table that these commands make of the one that was formatted.
     fn table(&self, alloc: Global, commands: &[Command]) -> Result<Table, Refusal>
         ensures { IfOk result (λ table. table ≡ table_from self.now.origin commands.now) }
     {
@@ -665,7 +665,7 @@ impl Plain {
     }
 }
 
-// Adds the commands of the batches that are begun behind others.
+// Appends the commands of the batches that are begun to others.
 fn add_flying(commands: &mut Vec<Command>, under_way: &PlainUnderWay) -> Result<(), Refusal>
     ensures { IfOk result (λ _. commands.new.items
         ≡ commands.old.items ++ in_flight (flights_of under_way.now)) }
@@ -681,7 +681,7 @@ fn add_flying(commands: &mut Vec<Command>, under_way: &PlainUnderWay) -> Result<
     }
 }
 
-// Adds the commands of a batch behind others, where a crash leaves it.
+// Appends the commands of a batch to others, if a crash leaves it.
 fn add_left(commands: &mut Vec<Command>, flight: &PlainFlight, flew: bool) -> Result<(), Refusal>
     ensures { IfOk result (λ _. commands.new.items
         ≡ left_of flew commands.old.items (flight_of flight.now ∷ [])) }
@@ -698,7 +698,7 @@ fn add_left(commands: &mut Vec<Command>, flight: &PlainFlight, flew: bool) -> Re
     Ok(())
 }
 
-// Adds commands behind others.
+// Appends commands to others.
 fn add(commands: &mut Vec<Command>, more: &[Command]) -> Result<(), Refusal>
     ensures { IfOk result (λ _. commands.new.items ≡ commands.old.items ++ more.now) }
 {
@@ -708,7 +708,7 @@ fn add(commands: &mut Vec<Command>, more: &[Command]) -> Result<(), Refusal>
     Ok(())
 }
 
-// Decides these commands on the table, one after the other, and gives their effects.
+// Decides these commands on the table, one after the other, and returns their effects.
 fn fold(alloc: Global, table: &mut Table, commands: &[Command]) -> Result<Vec<Effect>, Refusal>
     ensures table { IfOk result (λ _. table.new ≡ fold_of table.old commands.now) }
     ensures effects { IfOk result (λ effects. effects.items ≡ effects_of table.old commands.now) }
@@ -720,7 +720,7 @@ fn fold(alloc: Global, table: &mut Table, commands: &[Command]) -> Result<Vec<Ef
     Ok(effects)
 }
 
-// The decision of a command on a table, or its refusal; `OutOfMemory` is want of memory.
+// The decision of a command on a table, or its refusal; `OutOfMemory` means that memory ran out.
 fn decision_of(alloc: Global, table: &Table, command: &Command) -> Result<Decision, Refusal>
     ensures decided { IfOk result (λ d. MatchResult (step table.now command.now)
         (λ s. IsDecision table.now 1 command.now s d) (λ _. ⊥)) }
@@ -730,7 +730,7 @@ fn decision_of(alloc: Global, table: &Table, command: &Command) -> Result<Decisi
     table.decide(alloc, 1, command.clone()?)
 }
 
-// Why the command is not decided on this table, if it is not.
+// Why the command isn't decided on this table, if it isn't.
 fn refusal_on(alloc: Global, table: &Table, command: &Command) -> Result<Option<Refusal>, Refusal>
     ensures { IfOk result (λ refused. IsRefusal (step table.now command.now) refused) }
 {
@@ -741,7 +741,8 @@ fn refusal_on(alloc: Global, table: &Table, command: &Command) -> Result<Option<
     }
 }
 
-// Decides a command on the table, and gives its effects. One that is refused changes nothing.
+// Decides a command on the table, and returns its effects. A command that is refused changes
+// nothing.
 fn decide(alloc: Global, table: &mut Table, command: &Command) -> Result<Vec<Effect>, Refusal>
     ensures table { IfOk result (λ _. table.new
         ≡ with_step table.old (step table.old command.now)) }

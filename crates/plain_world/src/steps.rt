@@ -38,7 +38,7 @@ const HEARD: Reception = Reception {
     rssi: -95,
 };
 
-// A moment and digits: the frame that comes then with its one copy, as a command.
+// A moment and digits: the frame that comes then with its only copy, as a command.
 fn frame(alloc: Global, mut words: Words<'_>) -> Result<Step, Refusal> {
     let moment = next_ranged(&mut words).ok_or(Refusal::BadMessage)?;
     let digits = words.next().ok_or(Refusal::BadMessage)?;
@@ -62,7 +62,7 @@ fn piece(alloc: Global, mut words: Words<'_>) -> Result<Step, Refusal> {
 }
 
 /// The step of a line in the script of this number: one of `scripts`, or a device of the script's
-/// own that an application brings, a frame or a piece.
+/// own that an application provisions, a frame or a piece.
 pub fn step_of(alloc: Global, script: u32, line: &str) -> Result<Step, Refusal> {
     let mut words = Words::of(line);
     match words.next() {

@@ -1,4 +1,4 @@
-// What links say, told plainly: all that came over a link is read anew with each piece.
+// What links say, in the model: everything that came over a link is read anew with each piece.
 ghost use Rattle.std.specs.Prelude.{◌≡◌, IfOk};
 ghost use Rattle.world.specs.Links.{Completes, stream_on};
 
@@ -35,7 +35,7 @@ impl PlainPiece {
     }
 }
 
-/// The events that a piece hands in behind what came over its link, and the fault behind them.
+/// The events of a piece after what came over its link, and the fault after them.
 pub fn completed(
     alloc: Global,
     pieces: &[PlainPiece],

@@ -1,4 +1,4 @@
-// What a world answers, and what its model does.
+// The answers of a world, and what its model does.
 ghost use Rattle.std.specs.Prelude.{IfOk};
 ghost use Rattle.disk.specs.MemDisk.{state_of};
 ghost use Rattle.world.specs.Sound.{IsSoundWorld};
@@ -22,20 +22,20 @@ fn slots_of(slots: u64) -> Result<Slots, Refusal> {
     Slots::new(slots).ok_or(Refusal::Damaged)
 }
 
-/// A disk for so many devices, which isn't empty.
+/// A disk for this number of devices, which isn't empty.
 pub fn new_disk(alloc: Global, slots: u64) -> Result<MemDisk, Refusal> {
     let len = store::disk_len(slots_of(slots)?);
     Ok(MemDisk::new(alloc, vec![in alloc; 0xA5; len as usize]?)?)
 }
 
-// A world with so many slots.
+// A world with this number of slots.
 fn new_world(alloc: Global, slots: u64) -> Result<World<MemDisk>, Refusal>
     ensures { IfOk result (IsSoundWorld state_of) }
 {
     World::format(alloc, new_disk(alloc, slots)?, net_id()?, slots)
 }
 
-/// What a new world answers to these steps.
+/// The answers of a new world to these steps.
 pub fn answers_to(alloc: Global, slots: u64, steps: &[Step]) -> Result<Vec<Answer>, Refusal> {
     let mut world = new_world(alloc, slots)?;
     let answers = run(&mut world, alloc, steps);
@@ -43,7 +43,7 @@ pub fn answers_to(alloc: Global, slots: u64, steps: &[Step]) -> Result<Vec<Answe
     answers
 }
 
-/// What a new model answers, where the next device call fails from the step of this place on.
+/// The answers of a new model, if the next device call fails from the step of this place on.
 pub fn answers_of_model(
     alloc: Global,
     slots: u64,
@@ -61,7 +61,7 @@ pub fn answers_of_model(
     Ok(answers)
 }
 
-/// The number of the first answer that isn't the one that is wanted.
+/// The number of the first answer that isn't the wanted one.
 pub fn first_other(answers: &[Answer], wanted: &[Answer]) -> Option<usize> {
     for (number, (answer, wanted)) in answers.iter().zip(wanted).enumerate() {
         if !same(answer, wanted) {
@@ -71,7 +71,7 @@ pub fn first_other(answers: &[Answer], wanted: &[Answer]) -> Option<usize> {
     (answers.len() != wanted.len()).then_some(wanted.len())
 }
 
-/// The number of the first step that a new world and a new model answer otherwise.
+/// The number of the first step to which a new world and a new model give different answers.
 pub fn first_difference(
     alloc: Global,
     slots: u64,

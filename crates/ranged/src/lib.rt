@@ -1,4 +1,4 @@
-//! Whole numbers of a range.
+//! Whole numbers within a range.
 #![tactic(auto)]
 
 ghost use Rattle.std.specs.Prelude.{◌≡◌, ◌≤◌, ℕ, SomeIff};
@@ -22,7 +22,7 @@ impl<const LEAST: u64, const MOST: u64> Model for Ranged<LEAST, MOST> {
 }
 
 impl<const LEAST: u64, const MOST: u64> Ranged<LEAST, MOST> {
-    /// The number, where it is from `LEAST` to `MOST`.
+    /// The number, if it is from `LEAST` to `MOST`.
     pub fn new(value: u64) -> Option<Self>
         ensures { SomeIff result ((LEAST ≤ value) × (value ≤ MOST)) value }
     {

@@ -81,7 +81,7 @@ next_group_field {X} {Y} In spelled field Others bits others_spelled others firs
     (λ p h. ((h.0.0, h.1.0), joined (there p.0) (bits p.1) n h.0.1 h.1.1))
     (λ p h. let t = parted (there p.0) (bits p.1) n (few_there p.0) h.1 in ((h.0.0, t.0), (h.0.1, t.1)))
 
--- the bit that is left behind the last group
+-- the bit that is left after the last group
 last_bit_takes : (v : RecordVersion) (n : ℕ) (bytes : List ℕ) (grew : Bool) (rest : List ℕ) → last_bit_at v n bytes ≡ Some (grew, rest) → (MayGrow v grew × (growth grew ≡ n)) × (bytes ≡ rest)
 last_bit_takes V1 zero bytes grew rest e = subst (λ (q : Bool × List ℕ). ((q.0 ≡ false) × (growth q.0 ≡ 0)) × (bytes ≡ q.1)) (some_is (false, bytes) (grew, rest) e) ((refl, refl), refl)
 last_bit_takes V1 (suc n) bytes grew rest e = absurd cc
@@ -101,7 +101,7 @@ last_bit_field v n = record {
   again = λ grew rest h. subst (λ (k : ℕ). last_bit_at v k rest ≡ Some (grew, rest)) h.1 (last_bit_again v grew rest h.0);
 }
 
--- the last group, and the bit behind it
+-- the last group, and the bit after it
 last_field : {X : Type 0} (In : X → Type 0) (spelled : X → List ℕ) (field : Reader X) → IsField In spelled field → (v : RecordVersion) (n : ℕ)
     → IsField (λ (p : Option X × Bool). (IfSome p.0 In × MayGrow v p.1) × (there p.0 + 2 * growth p.1 ≡ n)) (λ p. group_bytes spelled p.0) (next_group_at field (last_bit_at v) n)
 last_field {X} In spelled field first v n =

@@ -276,7 +276,7 @@ change_new b a c h =
       in_order = subst (λ (d : Device). AreInOrder d.activation) (sym (device_after_is b a c h)) h.in_order;
     }
 
--- ---- what reading answers
+-- ---- what reading returns
 
 is_change : (v : RecordVersion) (before : Device) (bytes : List ℕ) (c : Groups) → IsBytes bytes → change_read v bytes ≡ Some c → length before.items ≤ MOST_ITEMS → AreQueueable before.mac_queue → IsNewTo before c
     → IsChangeOf v before (changed_device c before) bytes
@@ -299,7 +299,7 @@ is_refused : (after : Device) (r : Result Device Refusal) → Makes after r → 
 is_refused after (Ok made) is = tt
 is_refused after (Err e) is = inl is
 
--- what is read of the bytes of a change
+-- what is read from the bytes of a change
 pub reads_change : (v : RecordVersion) (before : Device) (bytes : List ℕ) (c : Groups) (r : Result Device Refusal) → IsBytes bytes → change_read v bytes ≡ Some c → length before.items ≤ MOST_ITEMS → AreQueueable before.mac_queue
     → IsNewTo before c → Makes (changed_device c before) r → ReadsChange v before bytes r
 reads_change v before bytes c r fits e few whole new is =
@@ -312,7 +312,7 @@ reads_change v before bytes c r fits e few whole new is =
       memory = λ out. (after, h);
     }
 
--- no change is read of other bytes
+-- no change is read from other bytes
 pub reads_none : (v : RecordVersion) (before : Device) (bytes : List ℕ) → IsNoChange v before bytes → ReadsChange v before bytes (Err Damaged)
 reads_none v before bytes none = record {
   found = tt;

@@ -52,7 +52,7 @@ most_items (Some (Added i)) is = let most = (has_item i is).1 in omega arith
 seven : (a b c d e f g : List ℕ) → length (a ++ (b ++ (c ++ (d ++ (e ++ (f ++ g)))))) ≡ length a + (length b + (length c + (length d + (length e + (length f + length g)))))
 seven a b c d e f g = simp length-append
 
--- the most bytes of a change, by those of its MAC queue
+-- the largest change, in bytes, given the length of its MAC queue
 most_parts : (v : RecordVersion) (before after : Device) (bytes : List ℕ) → IsChangeOf v before after bytes → length bytes ≤ 347 + longest_mac_queue v
 unfolding change_bytes
 most_parts v before after bytes h =

@@ -16,13 +16,13 @@ with_group o read = read >>= λ y. Some ((o, y.0), y.1)
 abbrev pub as_change : Option (GroupFields × List ℕ) → Option (Groups × List ℕ)
 as_change read = read >>= λ x. Some (groups_of x.0, x.1)
 
--- behind the mask
+-- after the mask
 pub behind_mask : (v : RecordVersion) (bytes : List ℕ) (bits : ℕ) (rest : List ℕ) (read : Option (GroupFields × List ℕ)) → byte_at bytes ≡ Some (bits, rest) → groups_at v bits rest ≡ read
     → change_at v bytes ≡ as_change read
 unfolding change_at
 behind_mask v bytes bits rest read mask others = rw (mask, others) refl
 
--- behind a group
+-- after a group
 pub behind_group : {X Y : Type 0} (field : Reader X) (others : ℕ → Reader Y) (bits more : ℕ) (is_there : Bool) (bytes : List ℕ) (o : Option X) (rest : List ℕ) (read : Option (Y × List ℕ))
     → is_there ≡ is_odd bits → more ≡ bits / 2 → group_at field is_there bytes ≡ Some (o, rest) → others more rest ≡ read → next_group_at field others bits bytes ≡ with_group o read
 behind_group field others bits more is_there bytes o rest read value half here then =
@@ -45,7 +45,7 @@ three : (nonces : Option (Option ℕ × Option ℕ)) (current : Option (Option C
 three n current counters None = refl
 three n current counters (Some y) = refl
 
--- behind the mask and the first three groups
+-- after the mask and the first three groups
 pub behind_three : (v : RecordVersion) (bytes r0 r1 r2 r3 : List ℕ) (b0 b1 b2 b3 : ℕ) (t0 t1 t2 : Bool) (nonces : Option (Option ℕ × Option ℕ)) (current : Option (Option CurrentSession)) (counters : Option (ℕ × ℕ)) (read : Option (From3 × List ℕ))
     → byte_at bytes ≡ Some (b0, r0)
     → t0 ≡ is_odd b0 → b1 ≡ b0 / 2 → group_at nonces_at t0 r0 ≡ Some (nonces, r1)

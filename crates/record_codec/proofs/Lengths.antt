@@ -94,7 +94,7 @@ has_head v d h =
     let key = h.head.app_key.1 in
     (omega arith, omega arith)
 
--- a record with a MAC queue and a count that are so long
+-- a record with a MAC queue and a count of these lengths
 has_parts : (v : RecordVersion) (queue count : ℕ) (d : Device) → IsDevice v d → length d.mac_queue ≤ queue → Has count count (heard_bytes v d.heard) → Has (50 + count) (4116 + queue + count) (spelling v d)
 unfolding spelling
 has_parts v queue count d h few heard =

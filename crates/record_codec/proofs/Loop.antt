@@ -7,7 +7,7 @@ use Rattle.std.specs.Option.{option_map_or}
 use Rattle.byte_fields.specs.Reading.{◌>>=◌}
 use Rattle.record_codec.specs.Reading.{item_at, items_at, items_in}
 
--- what was read before, and what is still read
+-- what was read before, and what is still to be read
 abbrev pub with_front : List Item → Option (List Item × List ℕ) → Option (List Item × List ℕ)
 with_front front read = read >>= λ x. Some (front ++ x.0, x.1)
 
@@ -49,7 +49,7 @@ not_there (Some x) e h = absurd cc
 pub is_in_bytes : (count : ℕ) (bytes : List ℕ) (items : List Item) (rest : List ℕ) → items_at count bytes ≡ Some (items, rest) → items ≡ items_in count bytes
 is_in_bytes count bytes items rest e = sym (ap (λ (o : Option (List Item × List ℕ)). option_map_or (λ x. x.0) o []) e)
 
--- some items were read of so many at the front of the bytes, and the rest is left
+-- some of the items at the front of the bytes were read, and the rest is left
 pub record HasRead (count : ℕ) (bytes : List ℕ) (i : ℕ) (rest : List ℕ) : Type 0 where
   pub items : List Item
   pub so_far : with_front items (items_at (count - i) rest) ≡ items_at count bytes

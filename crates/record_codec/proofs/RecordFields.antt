@@ -28,7 +28,7 @@ respelled_field In spelled other read field same = record {
   again = λ x rest h. ap (λ (w : List ℕ). read (w ++ rest)) (same x) ∙ field.again x rest h;
 }
 
--- ---- a number behind a flag
+-- ---- a number after a flag
 
 -- the flag and the number that were read
 abbrev IsFlagged : ℕ → Bool × ℕ → Type 0
@@ -126,7 +126,7 @@ session_field channels =
 abbrev pub IsAtMost : ℕ → ℕ → Type 0
 IsAtMost most n = n ≤ most
 
--- a number of eight bytes that has a greatest one
+-- a number of eight bytes that has a maximum
 pub at_most_field : (most : ℕ) → most < 2 ^ 64 → IsField (IsAtMost most) (to_be_bytes w64) (that (λ n. nat_le n most) (be_at w64))
 at_most_field most small =
     same_field (λ n. Below (2 ^ 64) n × (nat_le n most ≡ true)) (IsAtMost most) (to_be_bytes w64) (that (λ n. nat_le n most) (be_at w64))
@@ -155,14 +155,14 @@ current_field channels =
     (λ x h. ((record { session = h.0.0; last_up = h.1.0; next_down = h.1.1 }, h.0.1), refl))
     (λ c h. ((c.session, (c.last_up, c.next_down)), ((h.0.session, h.1), (h.0.last_up, h.0.next_down)), refl, refl))
 
--- ---- the channels, and behind them a session
+-- ---- the channels, and after them a session
 
--- 00, or the channels of what is there and its bytes
+-- 00, or the channels of what exists and its bytes
 abbrev spelled_by : {X : Type 0} → (X → Channels) → (X → List ℕ) → Option X → List ℕ
 spelled_by channels spelled None = 0 ∷ []
 spelled_by channels spelled (Some x) = channels_byte (channels x) ∷ spelled x
 
--- what is there is read by its channels
+-- what exists is read by its channels
 abbrev AreFields : {X : Type 0} → (X → Type 0) → (X → Channels) → (X → List ℕ) → (Channels → Reader X) → Type 0
 AreFields In channels spelled read = (given : Channels) → IsField (λ x. In x × (channels x ≡ given)) spelled (read given)
 

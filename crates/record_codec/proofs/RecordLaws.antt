@@ -44,7 +44,7 @@ payload_field =
     (λ bytes h. (h.0.0, leb-true (length bytes) LONGEST_PAYLOAD h.1))
     (λ bytes h. let le = h.1 in ((h.0, omega arith), le-leb (length bytes) LONGEST_PAYLOAD h.1))
 
--- the bytes of a queue, whatever they are
+-- the bytes of a queue, with any values
 abbrev pub IsQueue : RecordVersion → List ℕ → Type 0
 IsQueue v bytes = IsBytes bytes × (length bytes ≤ longest_mac_queue v)
 
@@ -219,7 +219,7 @@ record_again : (v : RecordVersion) (d : Device) → IsInRange v d → record_at 
 unfolding record_at
 record_again v d h = whole_again (IsInRange v) (spelling v) (device_at v) (device_field v) d h
 
--- ---- what reading answers
+-- ---- what reading returns
 
 in_range : (v : RecordVersion) (d : Device) → IsDevice v d → IsInRange v d
 in_range v d h = record { head = h.head; last_dev_nonce = h.last_dev_nonce; activation = h.activation; awaited = h.awaited; mac_queue = (h.mac_queue.0, h.mac_queue.1); items = h.items; heard = h.heard }
@@ -246,7 +246,7 @@ is_refused : (d : Device) (r : Result Device Refusal) → Makes d r → IfErr r 
 is_refused d (Ok made) is = tt
 is_refused d (Err x) is = inl is
 
--- what is read of the bytes of a record
+-- what is read from the bytes of a record
 pub reads_record : (v : RecordVersion) (bytes : List ℕ) (d : Device) (r : Result Device Refusal) → IsBytes bytes → record_at v bytes ≡ Some d → AreQueueable d.mac_queue → Makes d r → ReadsRecord v bytes r
 reads_record v bytes d r fits e whole is =
     let t = is_device v bytes d fits e whole in
@@ -257,7 +257,7 @@ reads_record v bytes d r fits e whole is =
       memory = λ out. (d, t.0, t.1);
     }
 
--- no record is read of other bytes
+-- no record is read from other bytes
 pub reads_none : (v : RecordVersion) (bytes : List ℕ) → IsNoRecord v bytes → ReadsRecord v bytes (Err Damaged)
 reads_none v bytes none = record {
   found = tt;

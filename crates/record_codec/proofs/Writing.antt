@@ -3,7 +3,7 @@ use Rattle.std.proofs.Common.{◌≡◌, ℕ, ◌≤◌, ◌∙◌, ◌++◌, Li
 use Rattle.std.proofs.lemmas.List.{take-take, take_at}
 use Rattle.record_codec.specs.Writing.{KeepsFront}
 
--- with more behind them, they are in front of what that is in front of
+-- if bytes still stand in front, so does each beginning of them
 pub keeps_more : (old more mid new : List ℕ) → mid ≡ old ++ more → KeepsFront mid new → KeepsFront old new
 keeps_more old more mid new is kept =
     let long : length mid ≡ length (old ++ more) = ap length is in

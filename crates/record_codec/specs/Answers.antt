@@ -1,4 +1,4 @@
--- What reading a record or a change answers.
+-- What reading a record or a change returns.
 use Rattle.std.specs.Prelude.{◌≡◌, ◌⊎◌, ℕ, List, Result, Err, IfErr, IfOk, MatchResult}
 use Rattle.lw_types.specs.declared.refusal.Refusal.{Refusal}
 use Rattle.lw_types.specs.declared.refusal.Refusal.TheVariants.{Damaged, OutOfMemory}
@@ -10,13 +10,13 @@ use Rattle.record_codec.specs.declared.version.RecordVersion.{RecordVersion}
 -- the bytes, as a device's record in a version
 pub record ReadsRecord (version : RecordVersion) (bytes : List ℕ)
     (answer : Result Device Refusal) : Type 0 where
-  -- what is read is spelled so
+  -- what is read is spelled this way
   pub found : IfOk answer (λ device. IsDevice version device × (bytes ≡ spelling version device))
-  -- what is spelled so is read, unless memory runs out
+  -- what is spelled this way is read, unless memory runs out
   pub only : (device : Device) → IsDevice version device → bytes ≡ spelling version device
       → MatchResult answer (λ found. found ≡ device) (λ e. e ≡ OutOfMemory)
   pub refused : IfErr answer (λ e. (e ≡ OutOfMemory) ⊎ (e ≡ Damaged))
-  -- memory runs out for records alone
+  -- memory runs out only for records
   pub memory : (answer ≡ Err OutOfMemory) → IsSomeRecord version bytes
 
 -- the bytes, as a change of a record in a version
@@ -28,5 +28,5 @@ pub record ReadsChange (version : RecordVersion) (before : Device) (bytes : List
   pub only : (after : Device) → IsChangeOf version before after bytes
       → MatchResult answer (λ found. found ≡ after) (λ e. e ≡ OutOfMemory)
   pub refused : IfErr answer (λ e. (e ≡ OutOfMemory) ⊎ (e ≡ Damaged))
-  -- memory runs out for changes of the record alone
+  -- memory runs out only for changes of the record
   pub memory : (answer ≡ Err OutOfMemory) → IsSomeChange version before bytes

@@ -1,4 +1,4 @@
--- A change: what one record has that the record before it had not, in groups of fields.
+-- A change: what one record has that the record before it didn't have, in groups of fields.
 use Rattle.std.specs.Prelude.{◌≡◌, ◌≢◌, ◌≤◌, ◌<◌, ◌^◌, ◌+◌, ◌*◌, ℕ, Bool, false, true, List, []}
 use Rattle.std.specs.Prelude.{◌∷◌, ◌++◌, length, Option, Some, None, IfSome}
 use Rattle.std.specs.Int.{w32, w64, to_be_bytes}
@@ -25,12 +25,12 @@ use Rattle.record_codec.specs.declared.version.RecordVersion.TheVariants.{V1, V2
 -- ---- the groups
 
 pub data ItemChange : Type 0 where
-  -- the first item leaves
+  -- the first item is removed
   Leaves : ItemChange
   -- this one is added at the end
   Added : Item → ItemChange
 
--- the groups of a change, each there or not, and whether one more uplink is counted
+-- the groups of a change, each present or absent, and whether one more uplink is counted
 pub record Groups : Type 0 where
   -- the last DevNonce and the last JoinNonce granted
   pub nonces : Option (Option ℕ × Option ℕ)
@@ -45,12 +45,12 @@ pub record Groups : Type 0 where
 
 -- ---- the bytes
 
--- 1 for a group that is there
+-- 1 for a group that is present
 abbrev pub there : {A : Type 0} → Option A → ℕ
 there None = 0
 there (Some x) = 1
 
--- 1 where the count grew
+-- 1 if the count grew
 abbrev pub growth : Bool → ℕ
 growth false = 0
 growth true = 1
@@ -67,7 +67,7 @@ mask c =
     + 2 * (there c.items
     + 2 * growth c.grew))))))
 
--- the bytes of a group that is there
+-- the bytes of a group that is present
 abbrev pub group_bytes : {A : Type 0} → (A → List ℕ) → Option A → List ℕ
 group_bytes spelled None = []
 group_bytes spelled (Some x) = spelled x
@@ -82,7 +82,7 @@ abbrev pub item_change_bytes : ItemChange → List ℕ
 item_change_bytes Leaves = 0 ∷ []
 item_change_bytes (Added i) = 1 ∷ item i
 
--- the one spelling of a change, in each version: the mask, and the groups that are there
+-- the one spelling of a change, in each version: the mask and the groups that are present
 unfoldable pub change_bytes : Groups → List ℕ
 change_bytes c =
     mask c
@@ -94,7 +94,7 @@ change_bytes c =
     ++ (group_bytes counted_bytes c.mac_queue
     ++ group_bytes item_change_bytes c.items))))))
 
--- ---- which values there are
+-- ---- which values exist
 
 abbrev pub AreNonces : Option ℕ × Option ℕ → Type 0
 AreNonces n = IfSome n.0 (λ k. k < 2 ^ 16) × IfSome n.1 IsJoinNonce
@@ -111,7 +111,7 @@ abbrev pub MayGrow : RecordVersion → Bool → Type 0
 MayGrow V1 grew = grew ≡ false
 MayGrow V2 grew = Unit {0}
 
--- the fields of each group are in their ranges, and what a version doesn't have isn't there
+-- the fields of each group are in their ranges, and what a version doesn't have is absent
 pub record AreInRange (version : RecordVersion) (c : Groups) : Type 0 where
   pub nonces : IfSome c.nonces AreNonces
   pub current : IfSome c.current (λ o. IfSome o IsCurrentSession)
@@ -124,13 +124,13 @@ pub record AreInRange (version : RecordVersion) (c : Groups) : Type 0 where
 
 -- ---- from one record to another
 
--- a group is there exactly where the part differs, and is the part afterwards
+-- a group is present exactly if the part differs, and is the part after the change
 abbrev pub IsGroup : {A : Type 0} → Option A → A → A → Type 0
 IsGroup None before after = after ≡ before
 IsGroup (Some x) before after = (after ≢ before) × (x ≡ after)
 
--- the current session with its counters where it is another one; else its counters where they
--- differ; else neither
+-- the current session with its counters if it is another one; else its counters if they differ;
+-- else neither
 abbrev pub IsCurrentGroup : Option (Option CurrentSession) → Option (ℕ × ℕ) → Grants → Grants
     → Type 0
 IsCurrentGroup (Some x) counters before after =
@@ -140,19 +140,19 @@ IsCurrentGroup None (Some n) before after =
     × (counters_of after ≡ Some n)
 IsCurrentGroup None None before after = after.current ≡ before.current
 
--- the item that leaves, or the one that is added, where the items differ
+-- the item that is removed or added, if the items differ
 abbrev pub IsItemGroup : Option ItemChange → List Item → List Item → Type 0
 IsItemGroup None before after = after ≡ before
 IsItemGroup (Some Leaves) before after = (first : Item) × (before ≡ first ∷ after)
 IsItemGroup (Some (Added i)) before after = after ≡ before ++ i ∷ []
 
--- the count is the same; or it is one more, where it wasn't at its end
+-- the count is the same, or one more if it wasn't at its end
 abbrev pub IsGrown : Bool → ℕ → ℕ → Type 0
 IsGrown false before after = after ≡ before
 IsGrown true before after = (before < LAST_HEARD) × (after ≡ before + 1)
 
--- the groups are exactly what one record has that the other had not, and the record that they lead
--- to is one that a device may have
+-- the groups are exactly what one record has that the other didn't have, and the record to which
+-- they lead is one that a device may have
 pub record IsChange (before after : Device) (c : Groups) : Type 0 where
   pub provisioned : AreProvisionedAlike before after
   pub nonces : IsGroup c.nonces (nonces_of before) (nonces_of after)

@@ -1,5 +1,5 @@
 -- Reading a change of a version from left to right: the mask, and each group whose bit is set. What
--- the change makes of a record, and where it is one of that record.
+-- the change makes of a record, and when it is a change of that record.
 use Rattle.std.specs.Prelude.{◌≡◌, ◌≢◌, ◌<◌, ◌%◌, ◌/◌, ◌^◌, ◌+◌, ◌==◌, ℕ, zero, suc, Bool, true}
 use Rattle.std.specs.Prelude.{false, List, [], ◌∷◌, ◌++◌, length, drop, Option, Some, None, IfSome}
 use Rattle.std.specs.Prelude.{nat_le, option_map, unwrap_or}
@@ -37,7 +37,7 @@ abbrev pub item_change_of : Option Item → ItemChange
 item_change_of None = Leaves
 item_change_of (Some i) = Added i
 
--- 00 where the first item leaves; 01 and the item that is added
+-- 00 if the first item is removed; 01 and the item that is added
 unfoldable pub item_change_at : Reader ItemChange
 item_change_at = seen_as item_change_of (optional_at item_at)
 
@@ -46,7 +46,7 @@ item_change_at = seen_as item_change_of (optional_at item_at)
 abbrev pub is_odd : ℕ → Bool
 is_odd n = n % 2 == 1
 
--- a group, where it is there
+-- a group, if it is present
 abbrev pub group_at : {X : Type 0} → Reader X → Bool → Reader (Option X)
 group_at field true = seen_as Some field
 group_at field false = λ bytes. Some (None, bytes)
@@ -55,7 +55,8 @@ group_at field false = λ bytes. Some (None, bytes)
 abbrev pub next_group_at : {X Y : Type 0} → Reader X → (ℕ → Reader Y) → ℕ → Reader (Option X × Y)
 next_group_at field others bits = both (group_at field (is_odd bits)) (others (bits / 2))
 
--- whether the count grew, by the bit that is left, which has no bytes; in version 1 none is left
+-- whether the count grew, from the bit that is left, which has no bytes; in version 1 no bit is
+-- left
 abbrev pub last_bit_at : RecordVersion → ℕ → Reader Bool
 last_bit_at V1 zero bytes = Some (false, bytes)
 last_bit_at V1 (suc bits) bytes = None
@@ -125,7 +126,7 @@ changed_grants c before =
       pending = unwrap_or c.pending before.activation.pending;
     }
 
--- the record that a change makes of one
+-- the record that a change makes of another
 abbrev pub changed_device : Groups → Device → Device
 changed_device c before =
     record before {
@@ -137,12 +138,12 @@ changed_device c before =
       heard = changed_heard c.grew before.heard;
     }
 
--- ---- where it is one of a record
+-- ---- when it is a change of a record
 
 abbrev pub IsNew : {A : Type 0} → Option A → A → Type 0
 IsNew o before = IfSome o (λ x. x ≢ before)
 
--- another session than before; or other counters of the same one
+-- another session than before, or other counters of the same one
 abbrev pub IsNewCurrent : Option (Option CurrentSession) → Option (ℕ × ℕ) → Grants → Type 0
 IsNewCurrent (Some current) (Some n) before = ⊥
 IsNewCurrent (Some current) None before = option_map (λ c. c.session) current ≢ session_of before
@@ -155,12 +156,12 @@ IsNewItems None before = Unit {0}
 IsNewItems (Some Leaves) before = before ≢ []
 IsNewItems (Some (Added i)) before = length before < MOST_ITEMS
 
--- the count isn't at its end, where it grows
+-- the count isn't at its end, if it grows
 abbrev pub HasRoomToGrow : Bool → ℕ → Type 0
 HasRoomToGrow false before = Unit {0}
 HasRoomToGrow true before = before < LAST_HEARD
 
--- each group differs from what the record has, and the record that they lead to is one that a
+-- each group differs from what the record has, and the record to which they lead is one that a
 -- device may have
 pub record IsNewTo (before : Device) (c : Groups) : Type 0 where
   pub nonces : IsNew c.nonces (nonces_of before)
@@ -173,7 +174,7 @@ pub record IsNewTo (before : Device) (c : Groups) : Type 0 where
   pub heard : HasRoomToGrow c.grew before.heard
   pub in_order : AreInOrder (changed_grants c before)
 
--- no change of the record is all of the bytes
+-- the bytes, as a whole, are no change of the record
 abbrev pub IsNoChange : RecordVersion → Device → List ℕ → Type 0
 IsNoChange version before bytes =
     (c : Groups) → change_read version bytes ≡ Some c → ¬ IsNewTo before c

@@ -29,7 +29,7 @@ use Rattle.record_codec.specs.declared.version.RecordVersion.TheVariants.{V1, V2
 abbrev pub nonce : ℕ → List ℕ
 nonce n = three_be_bytes n
 
--- a flag and a number, which is 0 where none is there
+-- a flag and a number, which is 0 if none exists
 abbrev pub flagged_number : Width → Option ℕ → List ℕ
 flagged_number w None = 0 ∷ to_be_bytes w 0
 flagged_number w (Some n) = 1 ∷ to_be_bytes w n
@@ -40,19 +40,19 @@ dev_nonce o = flagged_number w16 o
 abbrev pub awaited_bytes : Option Tag → List ℕ
 awaited_bytes o = flagged_number w32 (option_map (λ tag. tag.0) o)
 
--- three bytes, which are 0 where nothing was granted
+-- three bytes, which are 0 if nothing was granted
 abbrev pub granted_bytes : Option ℕ → List ℕ
 granted_bytes None = nonce 0
 granted_bytes (Some n) = nonce n
 
--- without its channels, of which the byte before it tells
+-- without its channels, which the byte before it gives
 abbrev pub session : Session → List ℕ
 session s = nonce s.join_nonce ++ (s.nwk_skey.0 ++ s.app_skey.0)
 
 abbrev pub current_session : CurrentSession → List ℕ
 current_session c = session c.session ++ (to_be_bytes w32 c.last_up ++ to_be_bytes w64 c.next_down)
 
--- the byte that says that a session is there, and which channels it has; 0 says that none is
+-- the byte that says whether a session exists, and which channels it has; 0 means none
 abbrev pub channels_byte : Channels → ℕ
 channels_byte Three = 1
 channels_byte Eight = 2
@@ -72,7 +72,7 @@ activation g =
 abbrev pub item : Item → List ℕ
 item i = to_be_bytes w32 i.tag.0 ++ (i.port ∷ [] ++ (flag i.confirmed ++ counted_bytes i.payload))
 
--- a byte with their number, and each item
+-- a byte with the number of items, and each item
 abbrev pub item_queue : List Item → List ℕ
 item_queue items = length items ∷ flat_map item items
 
@@ -102,7 +102,7 @@ spelling version d =
     ++ (item_queue d.items
     ++ heard_bytes version d.heard)))))
 
--- ---- which values there are
+-- ---- which values exist
 
 abbrev pub IsJoinNonce : ℕ → Type 0
 IsJoinNonce n = (0 < n) × (n < 2 ^ 24)
@@ -142,13 +142,13 @@ abbrev pub IsHeardIn : RecordVersion → ℕ → Type 0
 IsHeardIn V1 n = n ≡ 0
 IsHeardIn V2 n = n ≤ LAST_HEARD
 
--- a device of which version 1 tells all: no uplink is counted, and at most 64 bytes of MAC commands
+-- a device that version 1 can express: no uplink is counted, and at most 64 bytes of MAC commands
 -- wait
 pub record IsToldByV1 (d : Device) : Type 0 where
   pub heard : d.heard ≡ 0
   pub mac_queue : length d.mac_queue ≤ longest_mac_queue V1
 
--- a device of which a version tells all; version 2 does of each
+-- a device that a version can express; version 2 can express each device
 abbrev pub IsToldBy : RecordVersion → Device → Type 0
 IsToldBy V1 d = IsToldByV1 d
 IsToldBy V2 d = Unit {0}

@@ -1,4 +1,4 @@
--- Records and changes, of which what takes memory is elsewhere.
+-- Records and changes whose parts that need memory are elsewhere.
 use Rattle.std.specs.Prelude.{◌≤◌, List, Option, Some, None, IfSome, length, option_map}
 use Rattle.lw_types.specs.declared.payload.TheConstants.{LONGEST_PAYLOAD}
 use Rattle.devices.specs.declared.mac_queue.TheConstants.MacQueue.{MOST as LONGEST_MAC_QUEUE}
@@ -62,12 +62,12 @@ groups_of_parts g =
 abbrev pub IsShortChange : Option ItemPart → Type 0
 IsShortChange added = IfSome added (λ i. length i.payload.now ≤ LONGEST_PAYLOAD)
 
--- what takes memory is as long as it may be
+-- what needs memory is as long as allowed
 pub record AreShort (g : GroupParts) : Type 0 where
   pub mac_queue : IfSome g.mac_queue (λ bytes. length bytes.now ≤ LONGEST_MAC_QUEUE)
   pub items : IfSome g.items IsShortChange
 
--- a version has room for the MAC queue, and bit 7 where it is set
+-- a version has room for the MAC queue, and for bit 7 if it is set
 pub record FitVersion (version : RecordVersion) (g : GroupParts) : Type 0 where
   pub mac_queue : IfSome g.mac_queue (λ bytes. length bytes.now ≤ longest_mac_queue version)
   pub grew : MayGrow version g.grew

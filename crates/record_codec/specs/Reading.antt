@@ -1,5 +1,5 @@
--- Reading a device record of a version from left to right, field by field. That it gives back what
--- is spelled, and nothing else, is what `read_device` ensures.
+-- Reading a device record of a version from left to right, field by field. The contract of
+-- `read_device` says that reading gives back what is spelled, and nothing else.
 use Rattle.std.specs.Prelude.{◌≡◌, ℕ, zero, suc, ◌^◌, Bool, true, ◌&&◌, List, [], ◌∷◌, length}
 use Rattle.std.specs.Prelude.{nat_le, nat_lt, ◌==◌, if◌then◌else◌, Option, Some, None, unwrap_or}
 use Rattle.std.specs.Prelude.{option_map}
@@ -28,7 +28,7 @@ use Rattle.record_codec.specs.declared.version.RecordVersion.TheVariants.{V1, V2
 
 -- ---- fields
 
--- a flag and a number, which is 0 where the flag is
+-- a flag and a number, which is 0 if the flag is 0
 abbrev pub flagged_value : Bool × ℕ → Option ℕ
 flagged_value x = if x.0 then Some x.1 else None
 
@@ -49,7 +49,7 @@ is_join_nonce n = nat_lt 0 n && nat_lt n (2 ^ 24)
 abbrev pub nonce_from : ℕ → Option ℕ
 nonce_from n = if is_join_nonce n then Some n else None
 
--- 00 where no session is there, 01 before one of three channels, 02 before one of eight
+-- 00 if no session exists, 01 before one of three channels, 02 before one of eight
 abbrev pub channels_at : Reader (Option Channels)
 channels_at [] = None
 channels_at (zero ∷ rest) = Some (None, rest)
@@ -57,12 +57,12 @@ channels_at (suc zero ∷ rest) = Some (Some Three, rest)
 channels_at (suc (suc zero) ∷ rest) = Some (Some Eight, rest)
 channels_at (suc (suc (suc byte)) ∷ rest) = None
 
--- the field of a session that has these channels, if one is there
+-- the field of a session that has these channels, if one exists
 abbrev pub where_there : {X : Type 0} → (Channels → Reader X) → Option Channels → Reader (Option X)
 where_there field None = λ bytes. Some (None, bytes)
 where_there field (Some channels) = seen_as Some (field channels)
 
--- the channels, and behind them the field
+-- the channels, and after them the field
 abbrev pub optional_by : {X : Type 0} → (Channels → Reader X) → Reader (Option X)
 optional_by field bytes = channels_at bytes >>= λ given. where_there field given.0 given.1
 
@@ -101,7 +101,7 @@ activation_at =
 
 -- ---- queues
 
--- whole commands or not, which is tested of all of the queue
+-- whole commands or not; this is tested of the whole queue
 abbrev pub mac_queue_at : RecordVersion → Reader (List ℕ)
 mac_queue_at version = that (λ bytes. nat_le (length bytes) (longest_mac_queue version)) counted_at
 
@@ -123,13 +123,13 @@ items_at (suc n) bytes =
 unfoldable pub item_queue_at : Reader (List Item)
 item_queue_at bytes = ranged_at 0 MOST_ITEMS bytes >>= λ n. items_at n.0 n.1
 
--- so many items, where they stand at the front of the bytes
+-- this number of items, where they stand at the front of the bytes
 abbrev pub items_in : ℕ → List ℕ → List Item
 items_in n bytes = option_map_or (λ x. x.0) (items_at n bytes) []
 
 -- ---- the count of uplinks
 
--- 0 in version 1, which has no bytes of it
+-- 0 in version 1, which has no bytes for it
 abbrev pub heard_at : RecordVersion → Reader ℕ
 heard_at V1 bytes = Some (0, bytes)
 heard_at V2 bytes = that (λ n. nat_le n LAST_HEARD) (be_at w64) bytes
@@ -176,7 +176,7 @@ device_at version =
 unfoldable pub record_at : RecordVersion → List ℕ → Option Device
 record_at version = whole (device_at version)
 
--- the bytes are no record of a device for which whole commands wait
+-- the bytes aren't the record of a device for which whole commands wait
 abbrev pub IsNoRecord : RecordVersion → List ℕ → Type 0
 IsNoRecord version bytes =
     (device : Device) → record_at version bytes ≡ Some device → ¬ AreQueueable device.mac_queue

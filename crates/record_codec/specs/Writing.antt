@@ -1,4 +1,4 @@
--- Writing behind other bytes.
+-- Writing after other bytes.
 use Rattle.std.specs.Prelude.{◌≡◌, ℕ, List, length, take}
 
 -- the old bytes still stand in front

@@ -16,7 +16,7 @@ use devices::{Activation, Channels, CurrentSession, NextDown, Session};
 use lw_types::JoinNonce;
 use std::alloc::AllocError;
 
-/// 00 where no session is there, 01 before one of three channels, 02 before one of eight.
+/// 00 if no session exists, 01 before one of three channels, 02 before one of eight.
 fn read_channels(fields: &mut FieldReader<'_>) -> Option<Option<Channels>>
     ensures { Gives result fields.new.rest.now (channels_at fields.old.rest.now) }
 {
@@ -57,7 +57,7 @@ fn read_current(fields: &mut FieldReader<'_>, channels: Channels) -> Option<Curr
     })
 }
 
-/// The last JoinNonce granted, 0 for none.
+/// The last JoinNonce granted, or 0 for none.
 pub(crate) fn read_granted(fields: &mut FieldReader<'_>) -> Option<Option<JoinNonce>>
     ensures { Gives result fields.new.rest.now
         (seen_as nonce_from three_be_bytes_at fields.old.rest.now) }
@@ -85,7 +85,7 @@ pub(crate) fn read_optional_session(fields: &mut FieldReader<'_>) -> Option<Opti
     }
 }
 
-/// What was granted and the sessions, where they are in order.
+/// What was granted and the sessions, if they are in order.
 #[tactic(auto, unfolding(crate::specs::Reading::activation_at))]
 pub(crate) fn read_activation(fields: &mut FieldReader<'_>) -> Option<Activation>
     ensures { Gives result fields.new.rest.now (activation_at fields.old.rest.now) }
@@ -96,7 +96,7 @@ pub(crate) fn read_activation(fields: &mut FieldReader<'_>) -> Option<Activation
     Activation::new(granted, current, pending)
 }
 
-// The byte that says that a session of these channels is there.
+// The byte that says that a session of these channels exists.
 fn channels_byte(channels: Channels) -> u8
     ensures { result ≡ channels_byte channels }
 {
@@ -144,7 +144,7 @@ fn put_current(out: &mut Vec<u8>, current: &CurrentSession) -> Result<(), AllocE
     Ok(())
 }
 
-/// Appends the last JoinNonce granted, 0 for none.
+/// Appends the last JoinNonce granted, or 0 for none.
 pub(crate) fn put_granted(out: &mut Vec<u8>, nonce: Option<JoinNonce>) -> Result<(), AllocError>
     ensures written { OnOk result (out.new.items ≡ out.old.items ++ granted_bytes nonce) }
     ensures in_range { OnOk result (IfSome nonce IsJoinNonce) }

@@ -33,8 +33,8 @@ use lw_types::Refusal;
 use mac_commands::are_queueable;
 use std::alloc::{AllocError, Global};
 
-/// The most bytes of a change of version 2: that of a device which gets another current session and
-/// a pending one, a full MAC queue, and an item of 242 bytes.
+/// The largest change of version 2, in bytes: that of a device which gets another current session
+/// and a pending one, a full MAC queue, and an item of 242 bytes.
 pub const LONGEST_CHANGE: usize = 475;
 
 // ---- from one record to another
@@ -61,7 +61,7 @@ fn counters_of(current: &Option<CurrentSession>) -> Option<Counters>
     }
 }
 
-// The current session where it is another one, else its counters where they are others.
+// The current session if it is another one, else its counters if they differ.
 fn current_between(
     before: &Device,
     after: &Device,
@@ -112,7 +112,7 @@ fn commands_between<'a>(before: &Device, after: &'a Device) -> Option<&'a [u8]>
     }
 }
 
-// Where one item comes or leaves, the number of items tells which.
+// Whether one item is added or removed follows from the number of items.
 fn items_between<'a>(before: &Device, after: &'a Device) -> Option<ItemChangePart<'a>>
     requires { AreItemsAfter before.now.items after.now.items }
     ensures group { IsItemGroup (option_map item_change_of_parts result) before.now.items
@@ -168,7 +168,7 @@ fn put_change(
     put_groups(out, version, &groups)
 }
 
-// Appends the change from one record to the next, its one spelling in a version. After an `Err`
+// Appends the change from one record to the next. It has one spelling in a version. After an `Err`
 // nothing was appended.
 fn write_in(
     version: RecordVersion,
@@ -190,9 +190,9 @@ fn write_in(
     }
 }
 
-/// Appends the change from one record to the next in version 2, its one spelling, of 1 byte to
-/// [`LONGEST_CHANGE`]. Each byte is written once, and no memory is taken but for the room of `out`.
-/// For want of that it is refused as `OutOfMemory`, and then nothing is appended.
+/// Appends the change from one record to the next in version 2. It has one spelling, of 1 byte to
+/// [`LONGEST_CHANGE`]. Each byte is written once, and only the room of `out` takes memory. If
+/// memory runs out, `OutOfMemory` is returned and nothing is appended.
 pub fn write_change(before: &Device, after: &Device, out: &mut Vec<u8>) -> Result<(), Refusal>
     requires { MayBecome before.now after.now }
     ensures { MatchResult result
@@ -203,10 +203,9 @@ pub fn write_change(before: &Device, after: &Device, out: &mut Vec<u8>) -> Resul
     write_in(RecordVersion::V2, before, after, out)
 }
 
-/// Appends the change from one record to the next in version 1, where that tells all of the next,
-/// its one spelling, of 1 to 411 bytes. Each byte is written once, and no memory is taken but for
-/// the room of `out`. For want of that it is refused as `OutOfMemory`, and then nothing is
-/// appended.
+/// Appends the change from one record to the next in version 1, if version 1 can express the next
+/// one. It has one spelling, of 1 to 411 bytes. Each byte is written once, and only the room of
+/// `out` takes memory. If memory runs out, `OutOfMemory` is returned and nothing is appended.
 pub fn write_change_v1(before: &Device, after: &Device, out: &mut Vec<u8>) -> Result<(), Refusal>
     requires step { MayBecome before.now after.now }
     requires told { IsToldByV1 after.now }
@@ -244,7 +243,7 @@ impl GroupParts<'_> {
         }
     }
 
-    // The grants and the sessions afterwards, where they are in order.
+    // The grants and the sessions after the change, if they are in order.
     fn activation(&self, before: &Device) -> Option<Activation>
         ensures { let grants = changed_grants (groups_of_parts self.now) before.now in
             SomeIff result (AreInOrder grants) grants }
@@ -254,7 +253,7 @@ impl GroupParts<'_> {
         Activation::new(granted, self.current_after(before), pending)
     }
 
-    // Whether the nonces and the tag are others than before, where they are there.
+    // Whether the nonces and the tag differ from those before, if they are given.
     fn has_new_numbers(&self, before: &Device) -> bool
         ensures { IsTrue result ↔ (IsNew self.now.nonces (nonces_of before.now)
             × IsNew self.now.awaited before.now.awaited) }
@@ -272,7 +271,7 @@ impl GroupParts<'_> {
         nonces && awaited
     }
 
-    // Whether the current session is another one, or its counters are others, where they are there.
+    // Whether the current session is another one, or its counters differ, if they are given.
     fn has_new_current(&self, before: &Device, after: &Activation) -> bool
         requires { after.now.current ≡ changed_current self.now.current self.now.counters
             before.now.activation.current }
@@ -288,7 +287,7 @@ impl GroupParts<'_> {
         }
     }
 
-    // Whether the pending session is another one, where it is there.
+    // Whether the pending session is another one, if it is given.
     fn has_new_pending(&self, before: &Device, after: &Activation) -> bool
         requires { after.now.pending ≡ unwrap_or self.now.pending before.now.activation.pending }
         ensures { IsTrue result ↔ IsNew self.now.pending before.now.activation.pending }
@@ -296,7 +295,7 @@ impl GroupParts<'_> {
         self.pending.is_none() || !after.same_pending(&before.activation)
     }
 
-    // Whether other commands wait, where they are there: whole ones that may be queued.
+    // Whether the waiting commands are others, if they are given: whole ones that may be queued.
     fn has_new_commands(&self, before: &Device) -> bool
         ensures { let commands = option_map (λ bytes. bytes.now) self.now.mac_queue in
             IsTrue result ↔ (IsNew commands before.now.mac_queue
@@ -308,7 +307,7 @@ impl GroupParts<'_> {
         }
     }
 
-    // Whether an item is there to leave, or there is room for the one that is added.
+    // Whether an item exists that can be removed, or there is room for the one that is added.
     fn has_new_items(&self, before: &Device) -> bool
         ensures { IsTrue result ↔ IsNewItems (option_map item_change_of_parts self.now.items)
             before.now.items }
@@ -320,7 +319,7 @@ impl GroupParts<'_> {
         }
     }
 
-    // Whether the count isn't at its end, where it grows.
+    // Whether the count isn't at its end, if it grows.
     fn has_room_to_grow(&self, before: &Device) -> bool
         ensures { IsTrue result ↔ HasRoomToGrow self.now.grew before.now.heard }
     {
@@ -415,7 +414,7 @@ impl GroupParts<'_> {
 }
 
 /// The groups of a change of the record, which is all of the bytes, and the grants and sessions
-/// afterwards. Takes no memory.
+/// after it. Takes no memory.
 #[tactic(auto, unfolding(crate::specs::ChangeReading::change_read))]
 pub(crate) fn change_in<'a>(
     version: RecordVersion,
@@ -446,18 +445,18 @@ pub(crate) fn change_in<'a>(
     }
 }
 
-/// Reads the record that a change of version 2, which is all of the bytes, makes of the one before
-/// it. Bytes that are no change of that record are refused as `Damaged`, whether or not there is
-/// memory. For want of memory a change is refused as `OutOfMemory`.
+/// Reads a change of version 2, which is all of the bytes, and returns the record that it makes of
+/// the one before it. Bytes that aren't a change of that record are refused as `Damaged`, with or
+/// without free memory. A change is refused as `OutOfMemory` if memory runs out.
 pub fn read_change(alloc: Global, before: &Device, bytes: &[u8]) -> Result<Device, Refusal>
     ensures { ReadsChange V2 before.now bytes.now result }
 {
     RecordVersion::V2.read_change(alloc, before, bytes)
 }
 
-/// Reads the record that a change of version 1, which is all of the bytes, makes of the one before
-/// it. Bytes that are no change of that record are refused as `Damaged`, whether or not there is
-/// memory. For want of memory a change is refused as `OutOfMemory`.
+/// Reads a change of version 1, which is all of the bytes, and returns the record that it makes of
+/// the one before it. Bytes that aren't a change of that record are refused as `Damaged`, with or
+/// without free memory. A change is refused as `OutOfMemory` if memory runs out.
 pub fn read_change_v1(alloc: Global, before: &Device, bytes: &[u8]) -> Result<Device, Refusal>
     ensures { ReadsChange V1 before.now bytes.now result }
 {

@@ -28,7 +28,7 @@ use lw_types::{Eui, Key, Refusal};
 use mac_commands::are_queueable;
 use std::alloc::{AllocError, Global};
 
-/// A flag and the last DevNonce, which is 0 where the flag is.
+/// A flag and the last DevNonce, which is 0 if the flag is 0.
 #[tactic(auto, unfolding(crate::specs::Reading::flagged_at))]
 pub(crate) fn read_dev_nonce(fields: &mut FieldReader<'_>) -> Option<Option<u16>>
     ensures { Gives result fields.new.rest.now (flagged_at w16 fields.old.rest.now) }
@@ -41,7 +41,7 @@ pub(crate) fn read_dev_nonce(fields: &mut FieldReader<'_>) -> Option<Option<u16>
     }
 }
 
-/// A flag and the tag that is awaited, which is 0 where the flag is.
+/// A flag and the tag that is awaited, which is 0 if the flag is 0.
 #[tactic(auto, unfolding(crate::specs::Reading::flagged_at))]
 pub(crate) fn read_awaited(fields: &mut FieldReader<'_>) -> Option<Option<Tag>>
     ensures { Gives result fields.new.rest.now (awaited_at fields.old.rest.now) }
@@ -54,7 +54,7 @@ pub(crate) fn read_awaited(fields: &mut FieldReader<'_>) -> Option<Option<Tag>>
     }
 }
 
-// The count of uplinks, which a record of version 1 doesn't have.
+// The count of uplinks. A record of version 1 doesn't have it.
 fn read_heard(fields: &mut FieldReader<'_>, version: RecordVersion) -> Option<UplinkCount>
     ensures { Gives result fields.new.rest.now (heard_at version fields.old.rest.now) }
 {
@@ -64,11 +64,11 @@ fn read_heard(fields: &mut FieldReader<'_>, version: RecordVersion) -> Option<Up
     }
 }
 
-/// The most bytes of a record of version 2: that of a device with two sessions, a full MAC queue,
-/// and 16 items of 242 bytes. One of version 1 has at most 4,180.
+/// The largest record of version 2, in bytes: that of a device with two sessions, a full MAC queue,
+/// and 16 items of 242 bytes. A record of version 1 has at most 4,180 bytes.
 pub const LONGEST_RECORD: usize = 4_252;
 
-/// A record whose fields are there and in their ranges. What takes memory is still in the bytes.
+/// A record whose fields are complete and in their ranges. What needs memory is still in the bytes.
 #[derive(Clone, Copy)]
 pub(crate) struct RecordParts<'a> {
     dev_eui: Eui,
@@ -157,18 +157,18 @@ impl RecordParts<'_> {
     }
 }
 
-/// Reads a device from its record of version 2, which is all of the bytes. Bytes that are no such
-/// record are refused as `Damaged`, whether or not there is memory. For want of memory a record is
-/// refused as `OutOfMemory`.
+/// Reads a device from its record of version 2, which is all of the bytes. Bytes that aren't such a
+/// record are refused as `Damaged`, with or without free memory. A record is refused as
+/// `OutOfMemory` if memory runs out.
 pub fn read_device(alloc: Global, bytes: &[u8]) -> Result<Device, Refusal>
     ensures { ReadsRecord V2 bytes.now result }
 {
     RecordVersion::V2.read_device(alloc, bytes)
 }
 
-/// Reads a device from its record of version 1, which is all of the bytes. Bytes that are no such
-/// record are refused as `Damaged`, whether or not there is memory. For want of memory a record is
-/// refused as `OutOfMemory`. No uplink is counted there.
+/// Reads a device from its record of version 1, which is all of the bytes. Bytes that aren't such a
+/// record are refused as `Damaged`, with or without free memory. A record is refused as
+/// `OutOfMemory` if memory runs out. The device has no uplink counted.
 pub fn read_device_v1(alloc: Global, bytes: &[u8]) -> Result<Device, Refusal>
     ensures { ReadsRecord V1 bytes.now result }
 {
@@ -228,7 +228,7 @@ pub(crate) fn put_awaited(out: &mut Vec<u8>, tag: Option<Tag>) -> Result<(), All
     Ok(())
 }
 
-// Appends the count of uplinks, which a record of version 1 doesn't have.
+// Appends the count of uplinks. A record of version 1 doesn't have it.
 fn put_heard(
     out: &mut Vec<u8>,
     version: RecordVersion,
@@ -263,7 +263,7 @@ fn put_device(out: &mut Vec<u8>, version: RecordVersion, device: &Device) -> Res
     Ok(())
 }
 
-// Appends the record of a device, its one spelling in a version. After an `Err` nothing was
+// Appends the record of a device. It has one spelling in a version. After an `Err` nothing was
 // appended.
 fn write_in(version: RecordVersion, device: &Device, out: &mut Vec<u8>) -> Result<(), Refusal>
     requires { IsToldBy version device.now }
@@ -279,11 +279,11 @@ fn write_in(version: RecordVersion, device: &Device, out: &mut Vec<u8>) -> Resul
     }
 }
 
-/// Appends the record of a device in version 2, its one spelling, of 58 bytes to
-/// [`LONGEST_RECORD`]. Each byte is written once, and no memory is taken but for the room of `out`.
-/// For want of that it is refused as `OutOfMemory`, and then nothing is appended.
+/// Appends the record of a device in version 2. It has one spelling, of 58 bytes to
+/// [`LONGEST_RECORD`]. Each byte is written once, and only the room of `out` takes memory. If
+/// memory runs out, `OutOfMemory` is returned and nothing is appended.
 pub fn write_device(device: &Device, out: &mut Vec<u8>) -> Result<(), Refusal>
-    // What is written is the record of a device that can be read again.
+    // What is written can be read again as the record of a device.
     ensures { MatchResult result
         (λ _. (out.new.items ≡ out.old.items ++ spelling V2 device.now) × IsDevice V2 device.now)
         (λ e. (e ≡ OutOfMemory) × (out.new.items ≡ out.old.items)) }
@@ -291,9 +291,9 @@ pub fn write_device(device: &Device, out: &mut Vec<u8>) -> Result<(), Refusal>
     write_in(RecordVersion::V2, device, out)
 }
 
-/// Appends the record in version 1 of a device of which that tells all, its one spelling, of 50 to
-/// 4,180 bytes. Each byte is written once, and no memory is taken but for the room of `out`. For
-/// want of that it is refused as `OutOfMemory`, and then nothing is appended.
+/// Appends the record in version 1 of a device that version 1 can express. It has one spelling, of
+/// 50 to 4,180 bytes. Each byte is written once, and only the room of `out` takes memory. If memory
+/// runs out, `OutOfMemory` is returned and nothing is appended.
 pub fn write_device_v1(device: &Device, out: &mut Vec<u8>) -> Result<(), Refusal>
     requires { IsToldByV1 device.now }
     ensures { MatchResult result

@@ -16,15 +16,15 @@ use crate::version::RecordVersion;
 use byte_fields::FieldReader;
 use devices::{CurrentSession, MacQueue, NextDown, Session, Tag};
 
-// Which groups are there: a bit for each, the lowest for the next one; behind them one bit for the
-// count of uplinks.
+// Which groups are present: a bit for each, the lowest for the next one. After them comes one bit
+// for the count of uplinks.
 #[derive(Clone, Copy)]
 struct Mask {
     bits: u8,
 }
 
 impl Mask {
-    // Whether the next group is there.
+    // Whether the next group is present.
     fn next(&mut self) -> bool
         ensures value { result ≡ is_odd self.old.bits }
         ensures others { self.new.bits ≡ self.old.bits / 2 }
@@ -34,7 +34,7 @@ impl Mask {
         is_there
     }
 
-    // Whether the count grew, by the bit that is left. Version 1 has no such bit.
+    // Whether the count grew, from the bit that is left. Version 1 has no such bit.
     fn last(self, version: RecordVersion) -> Option<bool>
         ensures { (bytes : List ℕ) → Gives result bytes (last_bit_at version self.bits bytes) }
     {
@@ -119,7 +119,7 @@ fn read_commands<'a>(
     }
 }
 
-// Whether the first item leaves, or which one is added.
+// Whether the first item is removed, or which item is added.
 #[tactic(auto, unfolding(crate::specs::ChangeReading::item_change_at))]
 fn read_item_change<'a>(fields: &mut FieldReader<'a>) -> Option<ItemChangePart<'a>>
     ensures field { GivesSeen item_change_of_parts result fields.new.rest.now

@@ -27,7 +27,7 @@ pub fn records_are_short()
         → 58 ≤ length (spelling V2 device) }
 {}
 
-/// The most bytes of a record, and those of a MAC queue.
+/// The largest record, and the largest MAC queue, in bytes.
 pub fn limits_are_these()
     ensures record { LONGEST_RECORD ≡ 4252 }
     ensures mac_queue_of_v1 { longest_mac_queue V1 ≡ 64 }
@@ -51,7 +51,7 @@ pub fn each_record_has_one_change()
         → IsChangeOf version before after a → IsChangeOf version before after b → a ≡ b }
 {}
 
-/// A change has 1 byte to [`LONGEST_CHANGE`], and in version 1 at most 411.
+/// A change has 1 byte to [`LONGEST_CHANGE`], and in version 1 at most 411 bytes.
 pub fn changes_are_short()
     ensures least { (version : RecordVersion) (before after : Device) (bytes : List ℕ)
         → IsChangeOf version before after bytes → 1 ≤ length bytes }
@@ -61,7 +61,7 @@ pub fn changes_are_short()
         → IsChangeOf V1 before after bytes → length bytes ≤ 411 }
 {}
 
-/// The most bytes of a change.
+/// The largest change, in bytes.
 pub fn the_longest_change_is_this()
     ensures { LONGEST_CHANGE ≡ 475 }
 {}

@@ -1,5 +1,5 @@
-//! Device records as the store lays them out, in two versions: in each of them a record has one
-//! spelling, and no two share one.
+//! Device records as the store lays them out, in two versions. In each version a record has one
+//! spelling, and no two records share one.
 #![tactic(auto)]
 
 mod activation_fields;

@@ -1,4 +1,4 @@
-// Items and changes of which what takes memory is elsewhere: in a record, or in bytes.
+// Items and changes whose parts that need memory are elsewhere: in a record, or in bytes.
 ghost use Rattle.std.specs.Prelude.{◌≡◌, ◌≤◌, IfOk, length};
 ghost use Rattle.record_codec.specs.Parts.{item_of_part};
 
@@ -6,7 +6,7 @@ use devices::{CurrentSession, Item, NextDown, Payload, Port, Session, Tag};
 use lw_types::{JoinNonce, LONGEST_PAYLOAD};
 use std::alloc::{AllocError, Global};
 
-/// An item, its payload elsewhere.
+/// An item whose payload is elsewhere.
 #[derive(Clone, Copy)]
 pub(crate) struct ItemPart<'a> {
     pub tag: Tag,
@@ -16,7 +16,7 @@ pub(crate) struct ItemPart<'a> {
 }
 
 impl<'a> ItemPart<'a> {
-    /// The item, its payload where it is.
+    /// The item, with its payload where it is.
     pub fn of(item: &'a Item) -> Self
         ensures value { item_of_part result ≡ item.now }
         ensures few { length result.payload.now ≤ LONGEST_PAYLOAD }
@@ -51,11 +51,12 @@ pub(crate) type Nonces = (Option<u16>, Option<JoinNonce>);
 /// The counter of a session's last uplink and that of its next downlink.
 pub(crate) type Counters = (u32, NextDown);
 
-/// The item that is added at the end, its payload elsewhere; none where the first item leaves.
+/// The item that is added at the end, with its payload elsewhere; none if the first item is
+/// removed.
 pub(crate) type ItemChangePart<'a> = Option<ItemPart<'a>>;
 
-/// The groups of a change, each there or not, and whether one more uplink is counted. What takes
-/// memory is elsewhere.
+/// The groups of a change, each present or absent, and whether one more uplink is counted. What
+/// needs memory is elsewhere.
 #[derive(Clone, Copy)]
 pub(crate) struct GroupParts<'a> {
     pub nonces: Option<Nonces>,

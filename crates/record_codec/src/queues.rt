@@ -18,8 +18,8 @@ use devices::{Item, ItemQueue, MacQueue, Payload, Port, Ranged, Tag};
 use lw_types::LONGEST_PAYLOAD;
 use std::alloc::{AllocError, Global};
 
-/// The bytes of the MAC queue, at most as many as the version has. Whether they are whole commands
-/// isn't looked at.
+/// The bytes of the MAC queue, at most as many as the version allows. It isn't tested whether they
+/// are whole commands.
 pub(crate) fn read_mac_queue<'a>(
     fields: &mut FieldReader<'a>,
     version: RecordVersion,
@@ -49,7 +49,7 @@ fn read_payload<'a>(fields: &mut FieldReader<'a>) -> Option<&'a [u8]>
     }
 }
 
-/// An item, its payload still in the bytes.
+/// An item whose payload is still in the bytes.
 #[tactic(auto, unfolding(crate::specs::Reading::item_at))]
 pub(crate) fn read_item<'a>(fields: &mut FieldReader<'a>) -> Option<ItemPart<'a>>
     ensures field { GivesSeen item_of_part result fields.new.rest.now
@@ -75,7 +75,7 @@ pub(crate) struct ItemParts<'a> {
     bytes: &'a [u8],
 }
 
-// Reads `count` items, and passes them.
+// Reads `count` items and skips them.
 fn pass_items(count: u8, fields: &mut FieldReader<'_>) -> Option<()>
     ensures { GivesSeen (λ _. items_in count fields.old.rest.now) result fields.new.rest.now
         (items_at count fields.old.rest.now) }

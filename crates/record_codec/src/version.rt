@@ -10,15 +10,15 @@ use devices::{Device, MacQueue};
 use lw_types::Refusal;
 use std::alloc::Global;
 
-/// The version of an area's records, which its header names. Version 1 doesn't count uplinks, and
-/// its MAC queues have at most 64 bytes.
+/// The version of an area's records, which the area's header gives. Version 1 doesn't count
+/// uplinks, and its MAC queues have at most 64 bytes.
 #[derive(Clone, Copy, Debug, PartialEq, Eq)]
 pub enum RecordVersion {
     V1,
     V2,
 }
 
-/// Takes back what was appended behind so many bytes, for want of memory.
+/// Cuts the bytes to this length after memory ran out, and returns `OutOfMemory`.
 pub(crate) fn taken_back(out: &mut Vec<u8>, len: usize) -> Refusal
     ensures value { result ≡ OutOfMemory }
     ensures items { out.new.items ≡ take len out.old.items }
@@ -28,7 +28,7 @@ pub(crate) fn taken_back(out: &mut Vec<u8>, len: usize) -> Refusal
 }
 
 impl RecordVersion {
-    /// The version of a header's byte, if there is one.
+    /// The version that a header's byte gives, if any.
     pub fn of(byte: u8) -> Option<Self>
         ensures { MatchOption result
             ((version : RecordVersion) → byte ≢ version_byte version)
@@ -51,7 +51,7 @@ impl RecordVersion {
         }
     }
 
-    /// The most bytes of a MAC queue.
+    /// The largest MAC queue, in bytes.
     pub(crate) fn longest_mac_queue(self) -> usize
         ensures value { result ≡ longest_mac_queue self }
         ensures few { result ≤ MacQueue.MOST }
@@ -62,9 +62,9 @@ impl RecordVersion {
         }
     }
 
-    /// The device of a record in this version, which is all of the bytes. Bytes that are no such
-    /// record are refused as `Damaged`, whether or not there is memory. For want of memory a record
-    /// is refused as `OutOfMemory`.
+    /// Returns the device of a record in this version, which is all of the bytes. Bytes that aren't
+    /// such a record are refused as `Damaged`, with or without free memory. A record is refused as
+    /// `OutOfMemory` if memory runs out.
     pub fn read_device(self, alloc: Global, bytes: &[u8]) -> Result<Device, Refusal>
         ensures { ReadsRecord self bytes.now result }
     {
@@ -74,9 +74,9 @@ impl RecordVersion {
         }
     }
 
-    /// The record that a change in this version, which is all of the bytes, makes of the one
-    /// before it. Bytes that are no change of that record are refused as `Damaged`, whether or not
-    /// there is memory. For want of memory a change is refused as `OutOfMemory`.
+    /// Returns the record that a change in this version, which is all of the bytes, makes of the
+    /// one before it. Bytes that aren't a change of that record are refused as `Damaged`, with or
+    /// without free memory. A change is refused as `OutOfMemory` if memory runs out.
     pub fn read_change(
         self,
         alloc: Global,
@@ -85,7 +85,7 @@ impl RecordVersion {
     ) -> Result<Device, Refusal>
         ensures { ReadsChange self before.now bytes.now result }
     {
-        // What may wait in a record.
+        // Which commands and how many uplinks a record can have.
         let _commands = before.mac_queue.as_slice();
         let _items = before.items.as_slice();
         match change_in(self, before, bytes) {

@@ -28,7 +28,7 @@ pub(crate) fn put_key(out: &mut Vec<u8>, key: Key) -> Result<(), AllocError>
     Ok(())
 }
 
-/// Appends a byte of length, and the bytes.
+/// Appends a byte with the length, and the bytes.
 pub(crate) fn put_counted(out: &mut Vec<u8>, bytes: &[u8]) -> Result<(), AllocError>
     requires { length bytes.now ≤ 255 }
     ensures written { OnOk result (out.new.items ≡ out.old.items ++ counted_bytes bytes.now) }

@@ -23,7 +23,7 @@ use crate::written_fields::put_counted;
 use devices::{CurrentSession, MacQueue, Session, Tag};
 use std::alloc::AllocError;
 
-// 1 for a group that is there.
+// 1 for a group that is present.
 fn there<T>(group: &Option<T>) -> u8
     ensures value { result ≡ there group.now }
     ensures bit { result ≤ 1 }
@@ -131,7 +131,7 @@ fn put_commands(out: &mut Vec<u8>, commands: &Option<&[u8]>) -> Result<(), Alloc
     Ok(())
 }
 
-// 00 where the first item leaves; 01 and the item that is added.
+// 00 if the first item is removed; 01 and the item that is added.
 fn put_item_change(out: &mut Vec<u8>, added: &ItemChangePart<'_>) -> Result<(), AllocError>
     requires { IsShortChange added.now }
     ensures written { OnOk result (out.new.items
@@ -164,7 +164,7 @@ fn put_items(out: &mut Vec<u8>, items: &Option<ItemChangePart<'_>>) -> Result<()
     Ok(())
 }
 
-/// Appends the mask of a change and the groups that are there.
+/// Appends the mask of a change and the groups that are present.
 #[tactic(auto, unfolding(crate::specs::Change::change_bytes))]
 pub(crate) fn put_groups(
     out: &mut Vec<u8>,

@@ -1,4 +1,4 @@
--- A frequency that is tested to be among some is one of them.
+-- A frequency that passes the test `is_among` is one of the list.
 use Rattle.std.proofs.Common.{◌≡◌, ◌↔◌, ℕ, Bool, List, IsTrue, Contains, nat_eq, subst, sym}
 use Rattle.std.proofs.lemmas.Bool.{eqb-true}
 use Rattle.std.proofs.lemmas.Cmp.{nat_eq_equiv}

@@ -25,8 +25,8 @@ is_among frequencies frequency = list_any (λ (f : ℕ). frequency == f) frequen
 abbrev pub cf_frequency : ℕ → List ℕ
 cf_frequency frequency = take 3 (to_le_bytes w32 (frequency / 100))
 
--- the CFList of a Join-Accept: the frequencies of five channels, and then the type of the list,
--- which is 0 for frequencies (TS001-1.0.4 §6.2.6; RP002-1.0.4, EU863-870)
+-- the CFList of a Join-Accept: five frequencies, and then the type of the list, 0 for frequencies
+-- (TS001-1.0.4 §6.2.6; RP002-1.0.4, EU863-870)
 abbrev pub cf_list : List ℕ
 cf_list = flat_map cf_frequency later_channels ++ 0 ∷ []
 

@@ -1,6 +1,5 @@
-//! The channels and data rates of EU868 (RP002-1.0.4, EU863-870), for class A devices with the
-//! three channels that they have from the start and the five that a Join-Accept adds. No call takes
-//! memory.
+//! The channels and data rates of EU868 (RP002-1.0.4, EU863-870), for class A devices. A device has
+//! three channels from the start, and a Join-Accept adds five. No call takes memory.
 #![tactic(auto)]
 
 ghost use Rattle.std.specs.Prelude.{◌≡◌, ◌≤◌, ◌-◌, ◌↔◌, IsTrue, Contains, slice_index};
@@ -57,8 +56,8 @@ pub fn max_mac(data_rate: u8) -> u8
     }
 }
 
-/// The channels that a Join-Accept adds: the frequencies of five in units of 100 Hz, three bytes
-/// each, low bytes first, and a last byte that says so (TS001-1.0.4 §6.2.6; RP002-1.0.4,
+/// The channels that a Join-Accept adds: five frequencies in units of 100 Hz, three bytes each, low
+/// bytes first, and a last byte that gives the type of the list (TS001-1.0.4 §6.2.6; RP002-1.0.4,
 /// EU863-870).
 pub const CF_LIST: [u8; 16] = [
     0x18, 0x4F, 0x84, 0xE8, 0x56, 0x84, 0xB8, 0x5E, 0x84, 0x88, 0x66, 0x84, 0x58, 0x6E, 0x84, 0x00,
@@ -90,7 +89,7 @@ fn is_later_channel(frequency: u32) -> bool
     )
 }
 
-/// The whole dB by which an SNR, in quarter dB, is above the floor of its data rate, from 0 to 254.
+/// By how many whole dB an SNR, in quarter dB, is above the floor of its data rate, from 0 to 254.
 pub fn margin(snr: i16, data_rate: u8) -> u8
     requires { data_rate ≤ 5 }
     ensures margin { IsMargin snr data_rate result }

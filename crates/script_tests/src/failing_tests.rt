@@ -1,5 +1,5 @@
-// Each device call of a script fails, reads too. What is answered then is what a plain model
-// answers where the failure comes at that step; and a crash behind it loses nothing.
+// Each device call of a script fails, including reads. The answers are then compared with those of
+// a plain model in which the failure comes at that step; and a crash after it loses nothing.
 use crate::plays::{MAKING, SCRIPTS, SLOTS, are_left, images, played, steps_of};
 use disk::Sim;
 use lw_types::Refusal;
@@ -10,7 +10,7 @@ use world::{Answer, Step};
 // More calls than a script makes.
 const MOST: u64 = 100;
 
-// Whether a store is made where the device call of this number fails.
+// Whether a store is made if the device call of this number fails.
 fn is_made(alloc: Global, failing: u64) -> Result<bool, Refusal> {
     if failing == 0 {
         return Err(Refusal::OutOfStep);
@@ -24,7 +24,7 @@ fn is_made(alloc: Global, failing: u64) -> Result<bool, Refusal> {
     }
 }
 
-// How many calls in front of which a store can't be made.
+// The number of calls before which a store can't be made.
 fn making(alloc: Global) -> Result<u64, Refusal> {
     for call in 1..MOST {
         if is_made(alloc, call)? {
@@ -39,7 +39,7 @@ fn each_call_is_wanted_that_makes_a_store(rt: HostRuntime) {
     assert_eq!(rt; making(rt.alloc()), Ok(MAKING));
 }
 
-// Which step answers that the disk failed.
+// The step whose answer says that the disk failed.
 fn failed_step(answers: &[Answer]) -> Option<usize> {
     for (place, answer) in answers.iter().enumerate() {
         if matches!(answer, Answer::Refused(Refusal::DeviceFailed)) {
@@ -49,8 +49,8 @@ fn failed_step(answers: &[Answer]) -> Option<usize> {
     None
 }
 
-// The steps whose device calls failed, one for each call of a script: each script is answered as
-// the model answers where the failure comes at that step.
+// The steps whose device calls failed, one for each call of a script. The answers of each script
+// are those of the model in which the failure comes at that step.
 fn failed_steps(alloc: Global, steps: &[Step]) -> Result<Vec<usize>, Refusal> {
     let mut failed = Vec::new(alloc);
     for call in 1..MOST {
@@ -67,7 +67,7 @@ fn failed_steps(alloc: Global, steps: &[Step]) -> Result<Vec<usize>, Refusal> {
     Err(Refusal::Backlog)
 }
 
-// How often a step failed.
+// The number of times that a step failed.
 fn times(failed: &[usize], step: usize) -> usize {
     let mut times: usize = 0;
     for it in failed {
@@ -76,7 +76,7 @@ fn times(failed: &[usize], step: usize) -> usize {
     times
 }
 
-// Whether no step failed behind a later one.
+// Whether no step failed after a later one.
 fn are_in_order(failed: &[usize]) -> bool {
     let mut last = 0;
     for step in failed {
@@ -125,7 +125,7 @@ fn a_call_that_fails_is_answered_as_the_model_says(rt: HostRuntime) {
     }
 }
 
-// The number of the first device call of a script behind whose failure a crash leaves to some image
+// The number of the first device call of a script after whose failure a crash leaves in some image
 // what the reader doesn't find.
 fn first_lost(alloc: Global, letters: &str) -> Result<Option<u64>, Refusal> {
     let (steps, images) = (steps_of(alloc, letters)?, images(alloc)?);

@@ -30,11 +30,11 @@ const SECOND: Leg = (
     "taken 64\ncalled\ncalled\ncalled\ncalled\nreleased 64\n",
 );
 
-// The devices whose batches stand in the journal before the last three come.
+// The devices whose batches are in the journal before the last three come.
 const FILLING: u16 = 325;
 
-// Behind a device's items the journal has room for its commands, and no more behind those, neither
-// while they are under way nor once they are durable. Behind a checkpoint it has.
+// After a device's items the journal has room for its commands, and for nothing after those,
+// neither while they are under way nor once they are durable. After a checkpoint it has room.
 const LAST: &[Leg] = &[
     (
         "take 17\ncall\ncall\ncall\nnext 64\n",
@@ -107,21 +107,22 @@ fn add_all(input: &mut Vec<u8>, wanted: &mut Vec<u8>) -> io::Result<()> {
     Ok(())
 }
 
-// Whether a script is answered so.
+// Whether a script has these answers.
 fn is_answered(alloc: Global, script_lines: &[u8], wanted: &[u8]) -> bool {
     let mut input = script_lines;
     let mut out = Vec::new(alloc);
     script(alloc, &mut input, &mut out).is_ok() && out.as_slice() == wanted
 }
 
-// Whether a journal that is full goes on behind a checkpoint.
+// Whether a journal that is full goes on after a checkpoint.
 fn goes_on(alloc: Global) -> bool {
     let (mut input, mut wanted) = (Vec::new(alloc), Vec::new(alloc));
     add_all(&mut input, &mut wanted).is_ok() && is_answered(alloc, &input, &wanted)
 }
 
-// In a store with 329 slots the batches of 326 devices go into an area of 2,464,951 bytes, of 4,174
-// and 2,543 bytes each; then 275,179 are left, and 277,722 before the last one. 275,536 are wanted.
+// In a store with 329 slots the batches of 326 devices go into an area of 2,464,951 bytes, with
+// 4,174 and 2,543 bytes each. Then 275,179 are left, and 277,722 before the last one. 275,536 are
+// needed.
 #[test]
 fn a_full_journal_goes_on_behind_a_checkpoint(rt: HostRuntime) {
     assert!(rt; goes_on(rt.alloc()));

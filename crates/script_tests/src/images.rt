@@ -1,5 +1,5 @@
-// A plain reader of a store's bytes, written from docs/FORMATS.md alone: what an opening finds of a
-// disk that no fault has spoilt.
+// A plain reader of a store's bytes, written from docs/FORMATS.md alone: what an opening finds on
+// an undamaged disk.
 
 const SUPERBLOCK: usize = 32;
 
@@ -12,14 +12,14 @@ const ENTRIES: usize = 15;
 
 const BODY: usize = 5;
 
-/// How many devices an opening finds, and the number of the last decision.
+/// The number of devices that an opening finds, and the number of the last decision.
 #[derive(Clone, Copy, Debug, PartialEq, Eq)]
 pub(crate) struct Found {
     pub(crate) devices: usize,
     pub(crate) seq: u64,
 }
 
-// The number in so many bytes at a place, the highest first.
+// The number in this number of bytes at a place, the highest first.
 fn number(content: &[u8], at: usize, len: usize) -> u64 {
     let mut sum: u64 = 0;
     for byte in content.iter().skip(at).take(len) {
@@ -33,7 +33,7 @@ fn length(content: &[u8], at: usize, len: usize) -> usize {
     number(content, at, len) as usize
 }
 
-// Whether a gate is open, and the generation behind it, 0 where not.
+// Whether a gate is open, and the generation after it, or 0 if it isn't.
 fn generation(content: &[u8], area: usize) -> u64 {
     match number(content, area, 1) {
         OPEN => number(content, area.saturating_add(2), 8),
@@ -51,8 +51,8 @@ fn live_area(content: &[u8]) -> usize {
     }
 }
 
-// The devices behind a batch's entries, which begin at a place: an entry of the next free slot
-// brings one.
+// The devices after a batch's entries, which begin at a place: an entry of the next free slot adds
+// one.
 fn with_entries(content: &[u8], at: usize, count: u64, devices: usize) -> usize {
     let (mut at, mut devices) = (at, devices);
     for _ in 0..count {
@@ -65,7 +65,7 @@ fn with_entries(content: &[u8], at: usize, count: u64, devices: usize) -> usize 
     devices
 }
 
-/// What an opening of these bytes finds, where no area has more than 64 batches.
+/// What an opening of these bytes finds, if no area has more than 64 batches.
 pub(crate) fn found_in(content: &[u8]) -> Found {
     let area = live_area(content);
     let mut devices = length(content, area.saturating_add(18), 4);

@@ -1,8 +1,7 @@
-//! Tests of the public calls of scripts: lines and answers by themselves, reads and writes that
-//! fail, and one script that is too long to be kept (the others stand in the folder `scripts` at
-//! the top). And of stops: behind each step of a script, and at each of its device calls. What is
-//! opened then is beside a plain reader of images, and what is answered beside a plain model of
-//! worlds.
+//! Tests of the public calls of scripts: lines and answers alone, reads and writes that fail, and
+//! one script that is too long to be kept (the others are in the folder `scripts` at the top). Also
+//! tests of stops: after each step of a script, and at each of its device calls. What is then
+//! opened is compared with a plain reader of images, and the answers with a plain model of worlds.
 #![tactic(auto)]
 
 #[cfg(test)]

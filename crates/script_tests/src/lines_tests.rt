@@ -1,4 +1,4 @@
-// Lines and answers by themselves, and reads and writes that fail.
+// Lines and answers alone, and reads and writes that fail.
 use devices::{Application, Command, Provisioning, Rx1Offset, RxDelay};
 use disk::Image;
 use gateway_wire::{Emission, WireFrame};
@@ -62,7 +62,7 @@ fn step_of(wanted: Wanted) -> Option<Step> {
     }
 }
 
-// The lines that are read as something else, each behind a newline.
+// The lines that are read as something else, each after a newline.
 fn wrong_lines(alloc: Global) -> Result<String, Refusal> {
     let mut wrong = String::new(alloc);
     for (line, wanted) in LINES {
@@ -80,7 +80,7 @@ fn lines_are_steps(rt: HostRuntime) {
     assert!(rt; wrong.is_empty(), "{wrong}");
 }
 
-// Answers that no script here comes to, and some that few do.
+// Answers that no script here leads to, and some that few do.
 fn rare_answers(alloc: Global) -> Option<[Answer; 4]> {
     let frame = WireFrame::new([0, 0x5A].to_vec(alloc).ok()?).ok()?;
     let gateway = Eui(0xB1);
@@ -95,7 +95,7 @@ fn rare_answers(alloc: Global) -> Option<[Answer; 4]> {
     ])
 }
 
-// Their lines, and the one of a script that was refused for want of memory.
+// Their lines, and the one of a script that was refused because memory ran out.
 const RARE: &str = "\
 refused 30
 full
@@ -117,7 +117,7 @@ fn text_of(alloc: Global, answers: &[Answer]) -> io::Result<Vec<u8>> {
     Ok(out)
 }
 
-// What they are told as.
+// The lines that are written for them.
 fn rare_text(alloc: Global) -> io::Result<Vec<u8>> {
     match rare_answers(alloc) {
         Some(answers) => text_of(alloc, &answers),
@@ -140,7 +140,7 @@ fn lossy(bytes: &[u8]) -> &str {
     str::from_utf8(bytes).unwrap_or("no text")
 }
 
-// Gives a first line, and fails then.
+// Returns a first line, and then fails.
 #[derive(Drop)]
 struct Breaks {
     left: usize,

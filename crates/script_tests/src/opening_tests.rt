@@ -1,5 +1,5 @@
 // A store is opened again without a crash, on a disk whose last writes aren't synced, and a device
-// call of the opening fails. Behind its sync a crash leaves what the opening found.
+// call of the opening fails. After its sync a crash leaves what the opening found.
 use crate::images::found_in;
 use crate::plays::{SCRIPTS, images, played, steps_of};
 use disk::{Image, Sim};
@@ -12,7 +12,7 @@ use world::Step;
 const MOST: u64 = 100;
 
 // Whether a crash to this image leaves what an opening found whose device call of this number
-// failed; none where it was opened.
+// failed; none if it was opened.
 fn is_settled(
     alloc: Global,
     steps: &[Step],
@@ -38,7 +38,7 @@ fn is_settled(
     }
 }
 
-// Whether it does for each call behind the first one, which is the sync, and each image.
+// Whether it does for each call after the first one, which is the sync, and each image.
 fn is_always_settled(alloc: Global, steps: &[Step], images: &[Image]) -> Result<bool, Refusal> {
     for call in 2..MOST {
         for image in images {
@@ -52,7 +52,7 @@ fn is_always_settled(alloc: Global, steps: &[Step], images: &[Image]) -> Result<
     Ok(false)
 }
 
-// The first step of a script behind which it doesn't.
+// The first step of a script after which it doesn't.
 fn first_unsettled(alloc: Global, letters: &str) -> Result<Option<usize>, Refusal> {
     let (steps, images) = (steps_of(alloc, letters)?, images(alloc)?);
     for end in 0..=steps.len() {

@@ -1,4 +1,4 @@
-// Scripts, played on a new world whose disk may fail, and what a crash behind them leaves.
+// Scripts, played on a new world whose disk may fail, and what a crash after them leaves.
 use crate::images::{Found, found_in};
 use devices::Device;
 use disk::{Image, MemDisk, Sim};
@@ -32,8 +32,8 @@ pub(crate) fn steps_of(alloc: Global, letters: &str) -> Result<Vec<Step>, Refusa
     Ok(steps)
 }
 
-/// The images that a stop may leave: what was there, what was written, open gates, and at each
-/// place its low eight bits.
+/// The images that a stop may leave: the old bytes, the written ones, open gates, and at each place
+/// its low eight bits.
 pub(crate) fn images(alloc: Global) -> Result<Vec<Image>, Refusal> {
     let len = new_disk(alloc, SLOTS)?.content().len();
     let mut low = Vec::with_capacity(alloc, len)?;
@@ -48,8 +48,8 @@ pub(crate) fn images(alloc: Global) -> Result<Vec<Image>, Refusal> {
     Ok(images)
 }
 
-/// What a new world answers, and its disk. Of the device calls behind the making of its store the
-/// one of this number fails; none for 0.
+/// The answers of a new world, and its disk. After its store is made, the device call of this
+/// number fails; none for 0.
 pub(crate) fn played(
     alloc: Global,
     steps: &[Step],
@@ -65,7 +65,7 @@ pub(crate) fn played(
     Ok((answers?, disk))
 }
 
-// The number of the last decision that was released. Two batches at most are begun.
+// The number of the last decision that was released. At most two batches are begun.
 fn released(answers: &[Answer]) -> u64 {
     let (mut first, mut second, mut sum) = (0, 0, 0);
     for answer in answers {
@@ -87,7 +87,7 @@ fn released(answers: &[Answer]) -> u64 {
     sum as u64
 }
 
-// Whether a letter makes a decision, and the device that it brings.
+// Whether a letter makes a decision, and the device that it provisions.
 fn decision(letter: char) -> Option<Option<Eui>> {
     match letter {
         'a' => Some(Some(Eui(0))),
@@ -98,7 +98,8 @@ fn decision(letter: char) -> Option<Option<Eui>> {
     }
 }
 
-// Whether these are the devices that the first so many decisions of a script bring.
+// Whether these are the devices that the first decisions of a script, this number of them,
+// provision.
 fn are_brought(devices: &[Device], letters: &str, count: u64) -> bool {
     let (mut left, mut brought) = (count, 0);
     for letter in letters.chars() {
@@ -122,7 +123,7 @@ fn is_as_read(store: &Store<MemDisk>, found: Found, letters: &str) -> bool {
     is_found && are_brought(devices, letters, found.seq)
 }
 
-/// Whether these steps, of which a device call may fail, and a crash behind them leave what the
+/// Whether these steps, of which a device call may fail, and a crash after them leave what the
 /// reader finds: all that was released, and the devices of the first decisions.
 pub(crate) fn is_left(
     alloc: Global,
@@ -138,7 +139,7 @@ pub(crate) fn is_left(
     Ok(released(&answers) <= found.seq && is_as_read(&store, found, letters))
 }
 
-/// Whether each of these images is so left.
+/// Whether this holds for each of these images.
 pub(crate) fn are_left(
     alloc: Global,
     letters: &str,

@@ -1,10 +1,9 @@
-// The power fails behind each step of a script, and so behind each of its device calls.
+// The power fails after each step of a script, and so after each of its device calls.
 use crate::plays::{SCRIPTS, are_left, images, steps_of};
 use lw_types::Refusal;
 use std::alloc::Global;
 
-// The first step of a script behind which a crash leaves to some image what the reader doesn't
-// find.
+// The first step of a script after which a crash leaves in some image what the reader doesn't find.
 fn first_lost(alloc: Global, letters: &str) -> Result<Option<usize>, Refusal> {
     let (steps, images) = (steps_of(alloc, letters)?, images(alloc)?);
     for end in 0..=steps.len() {

@@ -6,15 +6,15 @@ use denote.Ref.{Bor}
 abbrev pub is_newline : ℕ → Bool
 is_newline byte = byte == 10
 
--- no newline stands in it
+-- it contains no newline
 abbrev pub IsOneLine : List ℕ → Type 0
 IsOneLine line = All (λ byte. is_newline byte ≡ false) line
 
--- a line that ends at a newline, or where the input ends
+-- a line that ends at a newline, or at the end of the input
 abbrev pub IsSplit : List ℕ → List ℕ → List ℕ → Type 0
 IsSplit input line rest = (input ≡ line ++ 10 ∷ rest) ⊎ ((input ≡ line) × (rest ≡ []))
 
--- the first line of an input and what is left behind it; no input has no line
+-- the first line of an input and what is left after it; an empty input has no line
 abbrev pub TakesLine : List ℕ → Option (Bor (List ℕ)) → List ℕ → Type 0
 TakesLine input None rest = (input ≡ []) × (rest ≡ [])
 TakesLine input (Some line) rest =

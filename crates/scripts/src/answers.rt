@@ -8,8 +8,7 @@ use std::io;
 use std::io::Write;
 use world::{Answer, EventTurn};
 
-/// Writes the line of an answer, or the lines of a list. A list for which there is no memory is
-/// refused.
+/// Writes the line of an answer, or the lines of a list. Refused if there is no memory for a list.
 pub fn write_answer<W: Write>(alloc: Global, out: &mut W, answer: &Answer) -> io::Result<()> {
     match answer {
         Answer::Turn { turn, .. } => write_turn(out, turn),

@@ -1,5 +1,5 @@
-//! Scripts: lines are steps, which are taken on a world with a new store on a disk in memory, and
-//! the answers are lines again.
+//! Scripts: their lines are steps, which are taken on a world with a new store on a disk in memory.
+//! The answers are lines again.
 #![tactic(auto)]
 
 mod answers;

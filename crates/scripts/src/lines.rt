@@ -2,8 +2,8 @@
 ghost use Rattle.std.specs.Prelude.{◌≡◌};
 ghost use Rattle.scripts.specs.Lines.{IsOneLine, IsSplit};
 
-/// The lines that are left to read. A line ends at a newline or where the input ends, so no input
-/// has no line, and a newline at the end begins no further one.
+/// The lines that are left to read. A line ends at a newline or at the end of the input. So an
+/// empty input has no line, and a newline at the end begins no further one.
 #[derive(Clone, Copy)]
 pub struct Lines<'a> {
     rest: &'a [u8],
@@ -39,7 +39,7 @@ impl<'a> Iterator for Lines<'a> {
     }
 }
 
-// The first line of an input and what is left behind it.
+// The first line of an input, and what is left after it.
 fn first_line(input: &[u8]) -> (&[u8], &[u8])
     ensures { IsOneLine result.0.now × IsSplit input.now result.0.now result.1.now }
 {

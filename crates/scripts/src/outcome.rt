@@ -1,4 +1,4 @@
-// What a script comes to.
+// The result of a script.
 use crate::PlanRow;
 use crate::answers::{write_answer, write_refusal};
 use lw_types::Refusal;
@@ -7,27 +7,27 @@ use std::io;
 use std::io::Write;
 use world::Answer;
 
-/// What a script comes to.
+/// The result of a script.
 #[derive(Drop)]
 pub enum ScriptResult {
     /// It had no line.
     Nothing,
-    /// Its first line formats no store.
+    /// Its first line doesn't format a store.
     BadStart,
     /// It was refused before its first step.
     Refused(Refusal),
     /// A disk of this length in bytes was formatted, and the steps were answered.
     Played {
         disk_len: u64,
-        /// The lines behind the first one.
+        /// The lines after the first one.
         rows: Vec<PlanRow>,
         /// The answer to each step.
         answers: Vec<Answer>,
     },
 }
 
-/// Writes the lines that a script is answered with: that of its first line, and those of the others
-/// in order.
+/// Writes the lines with which a script is answered: that of its first line, and those of the
+/// others in order.
 pub fn write_outcome<W: Write>(
     alloc: Global,
     out: &mut W,
@@ -48,7 +48,7 @@ pub fn write_outcome<W: Write>(
     }
 }
 
-// The answers in order, and between them `bad line` for each line that is no step.
+// The answers in order, and between them `bad line` for each line that isn't a step.
 fn write_rows<W: Write>(
     alloc: Global,
     out: &mut W,

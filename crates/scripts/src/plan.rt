@@ -5,12 +5,12 @@ use lw_types::Refusal;
 use std::alloc::Global;
 use world::Step;
 
-/// A line behind the first one.
+/// A line after the first one.
 #[derive(Clone, Copy, PartialEq, Eq)]
 pub enum PlanRow {
     /// A step, the next one in order.
     Step,
-    /// No step.
+    /// Not a step.
     BadLine,
 }
 
@@ -19,20 +19,20 @@ pub enum PlanRow {
 pub enum Plan {
     /// Nothing: it has no line.
     Nothing,
-    /// Nothing: its first line formats no store.
+    /// Nothing: its first line doesn't format a store.
     BadStart,
     /// A store, and steps on it.
     Run {
         format: Format,
         /// The steps in order.
         steps: Vec<Step>,
-        /// The lines behind the first one: `PlanRow::Step` as often as there are steps.
+        /// The lines after the first one. There is one `PlanRow::Step` for each step.
         rows: Vec<PlanRow>,
     },
 }
 
 impl Plan {
-    /// The plan of a script. Refused with `OutOfMemory` alone.
+    /// The plan of a script. Refused only with `OutOfMemory`.
     pub fn read(alloc: Global, input: &[u8]) -> Result<Plan, Refusal> {
         let mut lines = Lines::of(input);
         let Some(first) = lines.next() else {

@@ -14,9 +14,9 @@ use std::io::{BufWriter, ErrorKind, Read, Write};
 use store::disk_len;
 use world::{Step, World, run};
 
-/// Reads a script to its end, plays it on a new disk in memory, and writes the answers: one to each
-/// line. Want of memory before the first step is answered alone. Fails where a read or a write
-/// fails.
+/// Reads a script to its end, plays it on a new disk in memory, and writes the answers, one for
+/// each line. If memory runs out before the first step, that is the only answer. Fails if a read or
+/// a write fails.
 pub fn script<R: Read, W: Write>(alloc: Global, reader: &mut R, writer: &mut W) -> io::Result<()> {
     if let Ok(mut out) = BufWriter::new(alloc, &mut *writer) {
         let outcome = read_outcome(alloc, reader)?;
@@ -26,7 +26,7 @@ pub fn script<R: Read, W: Write>(alloc: Global, reader: &mut R, writer: &mut W) 
     write_refusal(writer, Refusal::OutOfMemory)
 }
 
-// What a script comes to. Fails where a read fails.
+// The result of a script. Fails if a read fails.
 fn read_outcome<R: Read>(alloc: Global, reader: &mut R) -> io::Result<ScriptResult> {
     let mut input = Vec::new(alloc);
     match reader.read_to_end(&mut input) {
@@ -38,7 +38,7 @@ fn read_outcome<R: Read>(alloc: Global, reader: &mut R) -> io::Result<ScriptResu
     }
 }
 
-// What an input comes to.
+// The result of an input.
 fn outcome_of(alloc: Global, input: &[u8]) -> ScriptResult {
     let played = match Plan::read(alloc, input) {
         Ok(Plan::Nothing) => Ok(ScriptResult::Nothing),

@@ -7,7 +7,7 @@ use std::alloc::Global;
 use std::str;
 use world::{Event, Step};
 
-/// The byte that `crash fill` leaves at every open position, which is that of an open gate.
+/// The byte that `crash fill` leaves at every open position: that of an open gate.
 const FILL: u8 = 0xA5;
 
 /// What the first line of a script asks for: a store for a network, and its number of slots.
@@ -18,7 +18,7 @@ pub struct Format {
     pub slots: u32,
 }
 
-/// The format that a first line asks for; `None` for any other line.
+/// The format that a first line asks for, or `None` for any other line.
 pub fn read_format(line: &[u8]) -> Option<Format> {
     let mut words = Words::of(str::from_utf8(line).ok()?);
     match words.next() {
@@ -27,7 +27,7 @@ pub fn read_format(line: &[u8]) -> Option<Format> {
     }
 }
 
-// A network and how many slots.
+// A network and the number of slots.
 fn format_fields(mut words: Words<'_>) -> Option<Format> {
     let net_id = next_value(&mut words)?;
     let slots = next_value(&mut words)?;
@@ -73,7 +73,7 @@ fn read_words(alloc: Global, line: &str) -> Result<Step, Refusal> {
     }
 }
 
-// How many decisions are taken at most.
+// The greatest number of decisions that are taken.
 fn most(mut words: Words<'_>) -> Option<Most> {
     let most = next_ranged(&mut words)?;
     match words.next() {
@@ -82,7 +82,7 @@ fn most(mut words: Words<'_>) -> Option<Most> {
     }
 }
 
-// A moment alone.
+// Only a moment.
 fn tick(mut words: Words<'_>) -> Option<Step> {
     let moment = next_ranged(&mut words)?;
     match words.next() {
@@ -121,7 +121,7 @@ fn reception(words: &mut Words<'_>) -> Option<Reception> {
     })
 }
 
-// The bytes that the last word is.
+// The bytes that the last word spells.
 fn last_bytes(alloc: Global, mut words: Words<'_>) -> Result<Vec<u8>, Refusal> {
     match (words.next(), words.next()) {
         (Some(word), None) => read_field(alloc, word),
@@ -129,7 +129,7 @@ fn last_bytes(alloc: Global, mut words: Words<'_>) -> Result<Vec<u8>, Refusal> {
     }
 }
 
-// A moment, an application, and what it asks for.
+// A moment, an application, and its request.
 fn request(alloc: Global, name: &str, mut words: Words<'_>) -> Result<Step, Refusal> {
     let moment = next_ranged(&mut words).ok_or(Refusal::BadMessage)?;
     let application = next_ranged(&mut words).ok_or(Refusal::BadMessage)?;

@@ -1,4 +1,4 @@
--- One refusal more is answered.
+-- One more refusal is answered.
 use Rattle.std.proofs.Common.{◌≡◌, ◌+◌, ◌++◌, ◌∷◌, ◌⊎◌, ◌<◌, ℕ, Bool, true, false, List, [], Result, Ok, Err, refl, ap, sym, ◌∙◌, inl, inr, arith, append_assoc, append-nil, ltb}
 use Rattle.std.specs.Prelude.{◌↔◌, IsTrue, MatchResult}
 use Rattle.std.proofs.lemmas.Bool.{lt-ltb, ltb-true}
@@ -26,7 +26,7 @@ added_answer (r ∷ rs) refusal bytes (inr (rest, (front, more))) =
     let behind = λ (b : List ℕ). b ++ answer_frame (refused_line refusal) in
     inr (rest ++ answer_frame (refused_line refusal), (ap behind front ∙ append_assoc (answer_frame (refused_line r)) rest (answer_frame (refused_line refusal)), added_answer rs refusal rest more))
 
--- a call added something, where this holds, or left all as it was
+-- a call added something, if this holds, or left everything unchanged
 pub added_or_same : {T P R S : Type 0} → S → (r : Result T Refusal)
     → MatchResult r (λ _. P) (λ e. (e ≡ OutOfMemory) × R) → R ⊎ (S × P)
 added_or_same here (Ok x) added = inr (here, added)
@@ -61,7 +61,7 @@ answered_one is_broken is_some before now later refusal bytes here there have po
       silent = λ broken. let no : false ≡ true = sym sound ∙ broken in cc;
     }
 
--- whether there was an effect, where there was no refusal
+-- whether there was an effect, if there was no refusal
 pub some_effect : (told : Bool) (refusals effects taken : ℕ) → (IsTrue told ↔ (0 < refusals)) → told ≡ false
     → taken ≡ effects → IsTrue (ltb 0 taken) ↔ (0 < refusals + effects)
 some_effect told refusals effects taken any none count =

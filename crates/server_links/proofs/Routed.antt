@@ -1,4 +1,4 @@
--- What one effect does to the rings.
+-- How one effect changes the rings.
 use Rattle.std.proofs.Common.{◌≡◌, ◌≢◌, ◌<◌, ◌≤◌, ◌+◌, ◌++◌, ◌∷◌, ℕ, Bool, true, false, List, [], Option, Some, refl, arith, ap, sym, ◌∙◌, subst, length, get_or, set, map, inl, inr, append_assoc}
 use Rattle.std.specs.Prelude.{slice_get}
 use Rattle.std.specs.Option.{option_map_or}
@@ -14,7 +14,7 @@ use Rattle.directory.specs.declared.names.Directory.{Directory}
 use Rattle.outbox.specs.Ring.{put_in, room_of}
 use Rattle.outbox.specs.declared.ends.Outlet.{Outlet}
 
--- an outlet that took an effect is put in the place of what it was
+-- an outlet that took an effect replaces the earlier state of it
 pub taken_one : (outlets : List Outlet) (n : ℕ) (d new : Outlet) (effect : Effect)
     → n < length outlets → put_in new ≡ put_in (get_or outlets n d) ++ effect ∷ []
     → rings_of (set outlets n new) ≡ put_behind n effect (rings_of outlets)
@@ -28,7 +28,7 @@ pub kept_one : (outlets : List Outlet) (n : ℕ) (d new : Outlet) → put_in new
     → rings_of (set outlets n new) ≡ rings_of outlets
 kept_one outlets n d new put = map-set_same put_in outlets n new d put
 
--- the outlet that is found at a place is the one that stands there
+-- the outlet that is found at a place is the one at that place
 pub full_one : (outlets : List Outlet) (n : ℕ) (d : Outlet) → room_of (get_or outlets n d) ≡ 0
     → (link : ℕ) (outlet : Outlet) → Some n ≡ Some link → slice_get outlets link ≡ Some outlet → room_of outlet ≡ 0
 full_one outlets n d full link outlet same found =
@@ -37,7 +37,7 @@ full_one outlets n d full link outlet same found =
     let there : room_of (get_or outlets link d) ≡ 0 = subst P at full in
     ap room_of (sym (get_or_from_slice_get outlets link outlet d found)) ∙ there
 
--- what holds behind an effect and those that come after it, holds behind these alone
+-- what holds after an effect and those that follow it holds after those alone
 pub routed_step : (directory : Directory) (all : List Effect) (first : List Outlet) (rest left : List Released) (one : Released) (got : Option ℕ) (lost more : ℕ) (old new : List Outlet)
     → rest ≡ one ∷ left
     → IsRoutedOne directory (effect_of one) got old new
@@ -52,7 +52,7 @@ routed_step directory all first rest left one got lost more old new front routed
     let sum : lost + (n + others) ≡ more + others = omega (arith, count) in
     subst Q sum (kept (n + others) after whole)
 
--- once none are left, all have come
+-- if none are left, all were put
 pub routed_all : (directory : Directory) (all : List Effect) (first : List Outlet) (rest : List Released) (lost : ℕ) (outlets : List Outlet)
     → length rest ≡ 0
     → ((others : ℕ) (after : List Outlet) → IsRouted directory (effects_of_all rest) others outlets after → IsRouted directory all (lost + others) first after)
@@ -65,7 +65,7 @@ routed_all directory all first (one ∷ rest) lost outlets none kept =
     let no : ⊥ = omega (arith, none) in
     absurd no
 
--- what came first and what came then has come
+-- what was put first and what was put then were both put
 pub marked_then : (before between now : Bool) (old middle new : List Effect)
     → IsMarked before between old middle → IsMarked between now middle new → IsMarked before now old new
 marked_then before between now old middle new (inl (is, (effect, (more, grown)))) (inl (marked, (other, (rest, on)))) =
@@ -76,7 +76,7 @@ marked_then before between now old middle new (inr (kept, nothing)) (inl (marked
     inl (marked, (other, (rest, on ∙ ap (λ (ring : List Effect). ring ++ other ∷ rest) nothing)))
 marked_then before between now old middle new (inr (kept, nothing)) (inr (same, on)) = inr (same ∙ kept, on ∙ nothing)
 
--- an effect came into a ring, which is marked
+-- an effect was put into a ring, which is marked
 pub marked_one : (before now : List Bool) (old middle new : List Outlet) (n : ℕ) (effect : Effect)
     → AreMarked before now old middle → length now ≡ length before
     → n < length middle → n < length now → rings_of new ≡ put_behind n effect (rings_of middle)
@@ -101,7 +101,7 @@ marked_one before now old middle new n effect marked long within is_marked put r
           inr (get_or-set_other now n ring true false other, got ∙ get_or-set_other rings n ring behind [] other)
     ])
 
--- an effect came into a ring that has no mark
+-- an effect was put into a ring that has no mark
 pub marked_none : (before now : List Bool) (old middle new : List Outlet) (n : ℕ) (effect : Effect)
     → AreMarked before now old middle → length now ≡ length before
     → length now ≤ n → rings_of new ≡ put_behind n effect (rings_of middle)
@@ -115,7 +115,7 @@ marked_none before now old middle new n effect marked long beyond put ring low =
     (get_or (rings_of old) ring []) (get_or rings ring []) (get_or (rings_of new) ring [])
     (marked ring low) (inr (refl, got ∙ get_or-set_other rings n ring behind [] other))
 
--- an effect came into none
+-- an effect was put into no ring
 pub marked_lost : (before now : List Bool) (old middle new : List Outlet)
     → AreMarked before now old middle → rings_of new ≡ rings_of middle → AreMarked before now old new
 marked_lost before now old middle new marked same ring low =

@@ -1,4 +1,4 @@
--- One effect more is taken.
+-- One more effect is taken.
 use Rattle.std.proofs.Common.{◌≡◌, ◌+◌, ◌++◌, ◌∷◌, ℕ, List, [], refl, ap, sym, ◌∙◌, inl, inr, append_assoc, append-nil}
 use Rattle.devices.specs.declared.effect.Effect.{Effect}
 use Rattle.gateway_wire.specs.Emission.{recipient}

@@ -1,4 +1,4 @@
--- What a write takes goes from the front of what is left.
+-- What a write takes is removed from the front of what is left.
 use Rattle.std.proofs.Common.{◌≡◌, ◌-◌, ◌++◌, ℕ, List, length, take, drop, sym, ap, ◌∙◌, append_assoc, take-append-drop}
 use Rattle.std.proofs.lemmas.List.{take_rest}
 

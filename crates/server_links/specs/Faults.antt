@@ -1,10 +1,10 @@
--- Why a life isn't begun.
+-- Why a life doesn't begin.
 use Rattle.std.specs.Prelude.{◌≡◌, ⊤}
 use Rattle.lw_types.specs.declared.refusal.Refusal.TheVariants.{OutOfMemory}
 use Rattle.server_links.specs.declared.fault.ServeFault.{ServeFault}
 use Rattle.server_links.specs.declared.fault.ServeFault.TheVariants.{Listen, Refused}
 
--- nobody can come in, or there was no memory
+-- links couldn't come in, or memory ran out
 abbrev pub IsOfBeginning : ServeFault → Type 0
 IsOfBeginning Listen = ⊤
 IsOfBeginning (Refused refusal) = refusal ≡ OutOfMemory

@@ -1,4 +1,4 @@
--- What operators say.
+-- The orders of operators.
 use Rattle.std.specs.Prelude.{ℕ, List, codes}
 use Rattle.server_links.specs.declared.orders.Order.{Order}
 use Rattle.server_links.specs.declared.orders.Order.TheVariants as orders

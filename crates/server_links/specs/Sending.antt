@@ -14,12 +14,12 @@ abbrev pub emission_frame : Emission → List ℕ
 emission_frame (Gateway gateway frame) = frame
 emission_frame (Application application line) = answer_frame line
 
--- the frame of the wire as which an effect leaves
+-- the frame of the wire for an effect
 abbrev pub effect_frame : Effect → List ℕ
 effect_frame effect = emission_frame (emission effect)
 
--- the frames of effects, one after another, each of which is for the link of this name, without so
--- many that are lost
+-- the frames of effects, one after another, each for the link of this name, without the lost ones,
+-- which are this number
 abbrev pub AreTogether : Recipient → List Effect → ℕ → List ℕ → Type 0
 AreTogether name [] lost bytes = (lost ≡ 0) × (bytes ≡ [])
 AreTogether name (effect ∷ effects) lost bytes =
@@ -27,13 +27,13 @@ AreTogether name (effect ∷ effects) lost bytes =
     ⊎ ((recipient effect ≡ name) × ((rest : List ℕ)
     × ((bytes ≡ effect_frame effect ++ rest) × AreTogether name effects lost rest)))
 
--- effects came out of a ring for the link of this name, and so many were lost; nothing comes out
--- where nobody has greeted
+-- effects came out of a ring for the link of this name, and this number were lost; if the peer
+-- hasn't greeted, nothing comes out
 abbrev pub AreGatheredFor : Option Recipient → List Effect → ℕ → List ℕ → Type 0
 AreGatheredFor None effects lost bytes = (effects ≡ []) × ((lost ≡ 0) × (bytes ≡ []))
 AreGatheredFor (Some name) effects lost bytes = AreTogether name effects lost bytes
 
--- so many came out of the ring, and the frames that are to be sent stand behind what was there
+-- this number came out of the ring, and their outgoing frames come after what was there
 abbrev pub AreGathered : Option Recipient → List Effect → List Effect → ℕ → ℕ → List ℕ → List ℕ
     → Type 0
 AreGathered name old_taken new_taken taken lost old_bytes new_bytes =
@@ -41,7 +41,7 @@ AreGathered name old_taken new_taken taken lost old_bytes new_bytes =
     × ((taken ≡ length effects) × ((new_bytes ≡ old_bytes ++ bytes)
     × AreGatheredFor name effects lost bytes))))
 
--- the answers to requests that were refused, one after another, but for those that are lost
+-- the answers to refused requests, one after another, without the lost ones
 abbrev pub AreAnswers : List Refusal → List ℕ → Type 0
 AreAnswers [] bytes = bytes ≡ []
 AreAnswers (refusal ∷ refusals) bytes =
@@ -49,8 +49,8 @@ AreAnswers (refusal ∷ refusals) bytes =
     ⊎ ((rest : List ℕ) × ((bytes ≡ answer_frame (refused_line refusal) ++ rest)
     × AreAnswers refusals rest))
 
--- refusals came out of a ring, and whether there were any; the answers that are to be sent stand
--- behind what was there, none of them on a broken link
+-- refusals came out of a ring, and whether there were any; the outgoing answers come after what was
+-- there, and on a broken link there are none
 pub record HaveAnswered (is_broken : Bool) (old_received new_received : List Refusal)
     (is_some : Bool) (old_bytes new_bytes : List ℕ) : Type 0 where
   pub refusals : List Refusal
@@ -61,17 +61,17 @@ pub record HaveAnswered (is_broken : Bool) (old_received new_received : List Ref
   pub answers : AreAnswers refusals bytes
   pub silent : IsTrue is_broken → bytes ≡ []
 
--- a beginning of the bytes was written, and all of them where it says so
+-- a beginning of the bytes was written, and all of them if the result says so
 abbrev pub IsWrittenTo : List ℕ → Bool → Option (List ℕ) → Option (List ℕ) → Type 0
 IsWrittenTo bytes is_whole before after =
     (gone : List ℕ) × ((rest : List ℕ) × ((bytes ≡ gone ++ rest)
     × (Appends before after gone × (IsTrue is_whole → rest ≡ []))))
 
--- A turn of a sender. Refusals and effects came out of its rings, and whether any did. The answers
--- to the refusals were put together, and behind them the frames of those effects that are for the
--- link of this name, and written: all of it, and then the lost effects count as dropped, or a
--- beginning, and then each of these effects counts as dropped, and the link is broken. On a link
--- that was broken before nothing is written, and it stays broken.
+-- A turn of a sender. Refusals and effects came out of its rings, and whether there were any. The
+-- answers to the refusals were put together, and after them the frames of the effects for the link
+-- of this name. Either all of it was written, and the lost effects count as dropped; or only a
+-- beginning was written, each of these effects counts as dropped, and the link is broken. On a link
+-- that was broken before, nothing is written, and it stays broken.
 pub record IsHandedOver (name : Option Recipient) (old_received new_received : List Refusal)
     (old_taken new_taken : List Effect) (is_some was_broken is_broken : Bool) (dropped : ℕ)
     (before after : Option (List ℕ)) : Type 0 where

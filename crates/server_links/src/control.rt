@@ -1,4 +1,4 @@
-// The socket over which operators speak with a life, beside the store's file.
+// The control socket, over which operators talk to a life; it is beside the store's file.
 ghost use Rattle.std.specs.Prelude.{◌≡◌, IfErr};
 ghost use Rattle.lw_types.specs.declared.refusal.Refusal.TheVariants.{OutOfMemory};
 ghost use Rattle.server_links.specs.Faults.{IsOfBeginning};
@@ -16,27 +16,28 @@ use std::os::unix::net::{UnixListener, UnixStream};
 use std::sync::{Mutex, Wait};
 use std::thread::Parker;
 
-/// How many operators are attended to at a time.
+/// The most operators that are served at a time.
 pub const ATTENDANTS: usize = 8;
 
-/// The control socket of a life, and what operators are told of besides its counts.
+/// The control socket of a life, and what operators can see besides its counts.
 #[derive(Drop)]
 pub struct ControlSocket {
     pub listener: UnixListener,
-    // The listener once more, as a socket that can be shut down. Linux then wakes whoever accepts.
+    // A second handle of the listener. Shutting it down wakes the thread that is blocked in
+    // accept().
     latch: UnixStream,
-    // For each attendant, whom it attends to, so that others can close it.
+    // For each attendant, the operator that it serves, so that others can close the connection.
     desks: Vec<Mutex<Option<UnixStream>>>,
-    // Whoever told the life to end, and is to be told when it has.
+    // The operators who asked the life to end. They get an answer when it has ended.
     waiting: Mutex<Vec<UnixStream>>,
-    // Rings never: attendants wait by it where accepting fails.
+    // Never rung: a timer for the pause after a failed accept.
     pub pause: Parker,
     pub watch: Watch,
     pub last_uplinks: Mutex<LastUplinks>,
 }
 
 impl ControlSocket {
-    /// The control socket of a life of a store with so many slots.
+    /// The control socket of a life whose store has this number of slots.
     pub fn new(alloc: Global, listener: UnixListener, slots: Slots) -> Result<Self, ServeFault>
         ensures { IfErr result IsOfBeginning }
     {
@@ -72,7 +73,7 @@ impl ControlSocket {
         })
     }
 
-    /// Lets nobody in any more, and ends the input of each operator, so that each attendant ends.
+    /// Accepts no more operators, and ends the input of each, so that each attendant ends.
     pub fn close<R: Wait>(&self, rt: &R) {
         let _ = self.latch.shutdown(Shutdown::Both);
         for desk in &self.desks {
@@ -84,17 +85,17 @@ impl ControlSocket {
         self.watch.ring();
     }
 
-    /// Whoever told the life to end.
+    /// The operators who asked the life to end.
     pub fn into_waiting(self) -> Vec<UnixStream> {
         self.waiting.into_inner()
     }
 
-    /// Somebody told the life to end, and is to be told when it has.
+    /// Keeps an operator who asked the life to end, for the answer when it has ended.
     pub fn keep_waiting<R: Wait>(&self, rt: &R, stream: UnixStream) {
         let _ = self.waiting.lock(rt).push(stream);
     }
 
-    /// Shows whom an attendant attends to.
+    /// Registers the operator that an attendant serves.
     pub fn show<R: Wait>(&self, rt: &R, number: usize, stream: Option<UnixStream>) {
         if let Some(desk) = self.desks.get(number) {
             *desk.lock(rt) = stream;

@@ -1,4 +1,4 @@
-// Where links come in while a life goes on.
+// The listener through which links come during a life.
 use std::io;
 use std::net::{Shutdown, SocketAddr, TcpListener, TcpStream};
 use std::os::fd::OwnedFd;
@@ -7,8 +7,8 @@ use std::os::fd::OwnedFd;
 #[derive(Drop)]
 pub struct Door {
     listener: TcpListener,
-    // The listener once more, as a socket that can be shut down. Linux then wakes whoever accepts,
-    // and refuses whoever connects.
+    // A second handle of the listener. Shutting it down wakes the threads that are blocked in
+    // accept(), and Linux then refuses new connections.
     latch: TcpStream,
     address: SocketAddr,
 }
@@ -29,13 +29,13 @@ impl Door {
         self.address
     }
 
-    /// Waits for a link. Fails at once where the door is shut.
+    /// Waits for a link. Fails at once if the door is shut.
     pub fn accept(&self) -> io::Result<TcpStream> {
         let (stream, _) = self.listener.accept()?;
         Ok(stream)
     }
 
-    /// Nobody comes in any more.
+    /// Accepts no more links.
     pub fn shut(&self) {
         let _ = self.latch.shutdown(Shutdown::Both);
     }

@@ -5,11 +5,11 @@ use thiserror::Error;
 /// Why a life has no report.
 #[derive(Debug, Drop, Error)]
 pub enum ServeFault {
-    /// A link couldn't be accepted, a thousand times in a row; or, where links come and go, the
-    /// system gave no second handle of the listener.
+    /// A link couldn't be accepted, a thousand times in a row. Or, if links come and go, the system
+    /// gave no second handle of the listener.
     #[error("listen")]
     Listen,
-    /// The store, or want of memory.
+    /// The store refused, or memory ran out.
     #[error("refused {number}", number = .0.number())]
     Refused(Refusal),
 }

@@ -1,14 +1,14 @@
-// What a life calls outside of itself: before each call of a worker, and once it has begun.
+// The caller's code that a life calls: before each call of a worker, and when the life has begun.
 
-/// Passed by each worker before each of its calls of the sessions, so that a test can hold one
+/// Passed by each worker before each of its calls of the sessions, so that a test can hold a worker
 /// there.
 pub trait Gate {
     /// A worker is about to make a call. Workers are numbered from 1 in the order in which their
-    /// links were accepted, and each one's calls from 1.
+    /// links were accepted, and the calls of each from 1.
     fn pass(&self, worker: usize, call: u64);
 }
 
-/// The server's own gate, at which nobody waits.
+/// The server's own gate, which lets everyone pass at once.
 #[derive(Clone, Copy)]
 pub struct OpenGate;
 
@@ -18,8 +18,8 @@ impl Gate for OpenGate {
 
 /// What is called when a life has begun.
 pub trait OnBegun {
-    /// Every thread of the life runs. It is called once at most, by the thread that began the life,
-    /// and before anything is committed.
+    /// Every thread of the life runs. It is called at most once, by the thread that began the life,
+    /// before anything is committed.
     fn begun(&mut self);
 }
 

@@ -1,4 +1,4 @@
-// Effects and refusals are put together as frames of the wire.
+// Putting effects and refusals together as frames of the wire.
 ghost use Rattle.std.specs.Prelude.{◌≡◌, ◌≤◌, ◌++◌, ◌⊎◌, ℕ, List, [], length, IsTrue, MatchBool};
 ghost use Rattle.std.specs.Prelude.{false, MatchResult};
 ghost use Rattle.lw_types.specs.declared.refusal.Refusal.TheVariants.{OutOfMemory};
@@ -19,18 +19,18 @@ use std::alloc::Global;
 // How many effects are put together before they are sent.
 pub const SOME: u64 = 64;
 
-/// How many effects were taken, and how many of them were lost.
+/// The number of effects that were taken, and how many of them were lost.
 #[derive(Clone, Copy)]
 pub struct Gathered {
     pub taken: u64,
     pub lost: u64,
 }
 
-/// Takes effects from the ring of a link, and puts the frames of those that are for the link of
-/// this name behind those that are to be sent, until there are enough of either or no more is seen
-/// (`enough`). An effect for another name is lost: whoever has the link now never hears what was
-/// for whoever had it before. So is one for whose frame there is no memory, and on a broken link
-/// each one (`broken`); that no other one is, no clause says.
+/// Takes effects from the ring of a link, and puts the frames of those for this name after the
+/// outgoing ones. Stops when there are enough effects or bytes, or when no more effects are seen
+/// (`enough`). An effect for another name is lost: a link's new peer never receives what was for
+/// the one before it. An effect is also lost if memory for its frame runs out, and on a broken link
+/// every effect is (`broken`). No clause says that all other effects are put.
 pub fn gather(
     alloc: Global,
     name: &Recipient,
@@ -63,7 +63,8 @@ pub fn gather(
     Gathered { taken, lost }
 }
 
-/// Takes what is seen in a ring, up to all that it has places for. How many effects that were.
+/// Takes what is seen in a ring, at most as many effects as it has places for. Returns their
+/// number.
 pub fn drop_all(inlet: &mut Inlet) -> u64
     ensures taken { (effects : List Effect)
         × ((taken_from inlet.new ≡ taken_from inlet.old ++ effects)
@@ -80,8 +81,8 @@ pub fn drop_all(inlet: &mut Inlet) -> u64
     taken
 }
 
-// Whether an effect is for the link of this name, and its frame is put behind the others. It isn't
-// without memory, nor on a broken link.
+// Whether an effect is for the link of this name and its frame was put after the others. It isn't
+// put without memory, nor on a broken link.
 fn is_put(
     alloc: Global,
     name: &Recipient,
@@ -97,8 +98,8 @@ fn is_put(
     !is_broken && Recipient::of(&effect) == *name && add_effect(alloc, &effect, outgoing).is_ok()
 }
 
-// Puts the frame of an effect behind the others. Refused with `OutOfMemory` for want of memory, and
-// then nothing is changed.
+// Puts the frame of an effect after the others. Refused with `OutOfMemory` if memory runs out; then
+// nothing is changed.
 fn add_effect(alloc: Global, effect: &Effect, outgoing: &mut Outgoing) -> Result<(), Refusal>
     ensures { MatchResult result (λ _. outgoing.new ≡ outgoing.old ++ effect_frame effect.now)
         (λ e. (e ≡ OutOfMemory) × (outgoing.new ≡ outgoing.old)) }
@@ -112,8 +113,8 @@ fn add_effect(alloc: Global, effect: &Effect, outgoing: &mut Outgoing) -> Result
     }
 }
 
-/// Puts the answer to a request that was refused behind the other frames. Refused with
-/// `OutOfMemory` for want of memory, and then nothing is changed.
+/// Puts the answer to a refused request after the other frames. Refused with `OutOfMemory` if
+/// memory runs out; then nothing is changed.
 pub fn add_refusal(alloc: Global, refusal: Refusal, outgoing: &mut Outgoing) -> Result<(), Refusal>
     ensures { MatchResult result
         (λ _. outgoing.new ≡ outgoing.old ++ answer_frame (refused_line refusal))

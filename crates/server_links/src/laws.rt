@@ -1,4 +1,4 @@
-//! The numbers of a server's links. The function does nothing: its contract is the law.
+//! The limits of a server's links. The law is the contract of a function that does nothing.
 ghost use Rattle.std.specs.Prelude.{◌≡◌};
 
 use crate::gathering::SOME;
@@ -7,9 +7,9 @@ use crate::outgoing::MUCH;
 use crate::rings::PLACES;
 use directory::MOST_GATEWAYS;
 
-/// How many gateways are linked at most, how many links a life has that stay, and how many places
-/// for those that don't; how many places a ring has, and how many effects and bytes are put
-/// together before they are sent.
+/// The most gateways with links; the most links of a life whose links stay; the most places of a
+/// life whose links come and go; the number of places of a ring; and how many effects and bytes are
+/// put together before they are sent.
 pub fn limits_are_these()
     ensures gateways { MOST_GATEWAYS ≡ 64 }
     ensures links { MOST_LINKS ≡ 80 }

@@ -1,7 +1,6 @@
-//! The links of a server over sockets: what is read from them in places, what their senders write,
-//! the rings that effects come by, what the threads of a life tell each other, and where operators
-//! come in and watch. The threads themselves stand in `link_server`, for which alone this is
-//! public.
+//! The links of a server over sockets: their places, what their senders write, and the rings
+//! through which effects come. Also the signals between the threads of a life, and the socket for
+//! operators. The threads themselves are in `link_server`; this crate is public only for it.
 #![tactic(auto)]
 
 mod control;

@@ -1,4 +1,4 @@
-// A link to a gateway or an application, and the place that links have in a life.
+// A link to a gateway or an application, and its place in a life.
 ghost use Rattle.std.specs.Prelude.{◌≡◌, length, IfErr, MatchResult};
 ghost use Rattle.lw_types.specs.declared.refusal.Refusal.TheVariants.{OutOfMemory};
 ghost use Rattle.server_links.specs.Faults.{IsOfBeginning};
@@ -16,47 +16,47 @@ use std::sync::{Mutex, OnceLock, Wait};
 use std::thread::Parker;
 use std::time::Duration;
 
-/// How many links a life of links that stay has: 64 gateways and 16 applications at most.
+/// The number of links of a life whose links stay: at most 64 gateways and 16 applications.
 pub type LinkCount = Ranged<1, MOST_LINKS>;
 
 pub const MOST_LINKS: u64 = 80;
 
-/// How many links a life of links that come and go has at a time: all that have names, and some
-/// that haven't greeted yet.
+/// The number of links that a life whose links come and go has at a time: all that have names, and
+/// some that haven't greeted yet.
 pub type PlaceCount = Ranged<1, MOST_PLACES>;
 
 pub const MOST_PLACES: u64 = 96;
 
-// How often in a row accepting may fail before the listener is given up.
+// The number of failed accepts in a row after which the listener is given up.
 const ATTEMPTS: u32 = 1000;
 
-// How long one write waits for room, in seconds. Then the sender looks whether it is to go on.
+// How long one write waits for room, in seconds. After that the sender checks whether to go on.
 const WRITE_WAIT: u64 = 1;
 
-/// The place of a link, and the bell of its sender, which rings where there is something to send or
-/// nothing more will come.
+/// The place of a link, and the bell of its sender. The bell rings when there is something to send
+/// or nothing more will come.
 #[derive(Drop)]
 pub struct Link {
     pub socket: Socket,
     pub bell: Parker,
-    // What the senders of the links that come here use, while no sender has it.
+    // What the senders of this place use in turn; `None` while a sender has it.
     pub spare: Mutex<Option<Spare>>,
-    // Whoever greeted on a link that stays.
+    // The peer that greeted on a link that stays.
     name: OnceLock<Recipient>,
-    // The link that is here has ended: nothing more comes for it.
+    // The current link has ended: nothing more comes for it.
     over: AtomicBool,
-    // It lost its name to a link that greeted later, and was closed.
+    // The current link lost its name to a later link, and was closed.
     taken: AtomicBool,
-    // One more than the moment of the last copy that came on it; 0 before the first.
+    // One more than the moment of the last copy on the current link; 0 before the first.
     last_copy: AtomicU64,
 }
 
-/// What a place is connected by.
+/// The socket of a place.
 #[derive(Drop)]
 pub enum Socket {
     /// One link, for the whole life.
     Fixed(TcpStream),
-    /// One link after another. It is shown here, so that others can close it.
+    /// One link after another. The current one is registered here, so that others can close it.
     Shown(Mutex<Option<TcpStream>>),
 }
 
@@ -79,23 +79,23 @@ impl Link {
         }
     }
 
-    /// A copy of a frame came on the link that is here.
+    /// Notes that a copy of a frame came on the current link.
     pub fn set_last_copy(&self, moment: Moment) {
         self.last_copy.store(moment.get().saturating_add(1), SeqCst);
     }
 
-    /// The moment of the last copy that came on the link that is here.
+    /// The moment of the last copy that came on the current link.
     pub fn last_copy(&self) -> Option<u64> {
         self.last_copy.load(SeqCst).checked_sub(1)
     }
 
-    /// Ends each read and write of the link that is here, also those that wait.
+    /// Ends each read and write of the current link, also those that wait.
     pub fn close<R: Wait>(&self, rt: &R) {
         self.shut(rt, Shutdown::Both);
         self.bell.unpark();
     }
 
-    /// Ends the input of the link that is here, behind what has come.
+    /// Ends the input of the current link, after what has come.
     pub fn close_input<R: Wait>(&self, rt: &R) {
         self.shut(rt, Shutdown::Read);
     }
@@ -113,23 +113,23 @@ impl Link {
         }
     }
 
-    /// Closes the link that is here, whose name goes over to another one.
+    /// Closes the current link, whose name goes over to another one.
     pub fn take<R: Wait>(&self, rt: &R) {
         self.taken.store(true, SeqCst);
         self.close(rt);
     }
 
-    /// Whether the link that is here lost its name.
+    /// Whether the current link lost its name.
     pub fn is_taken(&self) -> bool {
         self.taken.load(SeqCst)
     }
 
-    /// Gives the place what the senders of its links use.
+    /// Gives the place what its senders use.
     pub fn set_spare<R: Wait>(&self, rt: &R, spare: Spare) {
         *self.spare.lock(rt) = Some(spare);
     }
 
-    /// Shows the next link, so that others can close it.
+    /// Registers the next link, so that others can close it.
     pub fn show<R: Wait>(&self, rt: &R, stream: TcpStream) {
         self.over.store(false, SeqCst);
         self.taken.store(false, SeqCst);
@@ -137,7 +137,7 @@ impl Link {
         self.set_shown(rt, Some(stream));
     }
 
-    /// No link is here any more.
+    /// Removes the current link.
     pub fn hide<R: Wait>(&self, rt: &R) {
         self.set_shown(rt, None);
     }
@@ -148,37 +148,37 @@ impl Link {
         }
     }
 
-    /// Who greeted on a link that stays.
+    /// The peer that greeted on a link that stays.
     pub fn name(&self) -> Option<&Recipient> {
         self.name.get()
     }
 
-    /// Somebody greets on a link that stays.
+    /// Sets the peer that greets on a link that stays.
     pub fn set_name<R: Wait>(&self, rt: &R, name: Recipient) {
         let _ = self.name.set(rt, name);
     }
 
-    /// Nothing more comes for the link that is here: its sender writes what waits, and ends.
+    /// Says that nothing more comes for the current link: its sender writes what waits, and ends.
     pub fn set_over(&self) {
         self.over.store(true, SeqCst);
         self.bell.unpark();
     }
 
-    /// Whether nothing more comes for the link that is here.
+    /// Whether nothing more comes for the current link.
     pub fn is_over(&self) -> bool {
         self.over.load(SeqCst)
     }
 }
 
-/// What is sent leaves at once and not with what is sent next. Where the system refuses an option
-/// the link works without it.
+/// Sets the socket so that data leaves at once, not together with later data. If the system refuses
+/// an option, the link works without it.
 pub fn set_options(stream: &TcpStream) {
     let _ = stream.set_nodelay(true);
     let _ = stream.set_write_timeout(Some(Duration::from_secs(WRITE_WAIT)));
 }
 
-/// Accepts so many links, and then closes the listener, so that whoever comes later is told at
-/// once.
+/// Accepts this number of links and then closes the listener, so that later connections are refused
+/// at once.
 pub fn accept(
     alloc: Global,
     listener: TcpListener,
@@ -196,7 +196,7 @@ pub fn accept(
     Ok(links)
 }
 
-// A connection that is gone before it is accepted counts as a failure that passes.
+// A connection that is gone before it is accepted counts as a failed accept, which is tried again.
 fn accept_one(listener: &TcpListener) -> Result<TcpStream, ServeFault>
     ensures { IfErr result IsOfBeginning }
 {
@@ -208,7 +208,7 @@ fn accept_one(listener: &TcpListener) -> Result<TcpStream, ServeFault>
     Err(ServeFault::Listen)
 }
 
-/// So many places without a link. Refused with `OutOfMemory` for want of memory.
+/// This number of places without links. Refused with `OutOfMemory` if memory runs out.
 pub fn empty_places(alloc: Global, count: PlaceCount) -> Result<Vec<Link>, Refusal>
     ensures { MatchResult result (λ links. length links.items ≡ count) (λ e. e ≡ OutOfMemory) }
 {

@@ -1,4 +1,4 @@
-// Where moments come from.
+// The source of moments.
 ghost use Rattle.std.specs.Prelude.{◌≡◌, ◌<◌, ◌+◌, ◌^◌};
 
 use session_core::{LAST_MOMENT, Moment};
@@ -9,11 +9,11 @@ use std::{io, time};
 
 /// The moments of one life, and waits for them.
 pub trait LifeClock {
-    /// The moment that it is. It may stand still or fall: the core's effective time is the latest
-    /// of all that it is told.
+    /// The current moment. It may stand still or go back: the core's effective time is the latest
+    /// moment that it has been given.
     fn now(&self) -> Moment;
 
-    /// Waits until it is that moment, or the bell rings, or for a shorter time.
+    /// Waits until this moment or until the bell rings, or for a shorter time.
     fn wait<R: Wait>(&self, rt: &R, bell: &Parker, until: Moment);
 }
 
@@ -25,7 +25,7 @@ pub struct Monotonic<C: time::Clock> {
 }
 
 impl<C: time::Clock> Monotonic<C> {
-    /// A clock that begins at 0 now. Fails where the system's clock can't be read.
+    /// A clock that begins at 0 now. Fails if the system's clock can't be read.
     pub fn start(clock: C) -> io::Result<Self>
     where
         C: Drop,
@@ -34,7 +34,7 @@ impl<C: time::Clock> Monotonic<C> {
         Ok(Monotonic { clock, start })
     }
 
-    // The time since the beginning. A clock that can't be read any more is back at it.
+    // The time since the beginning; 0 if the clock can no longer be read.
     fn elapsed(&self) -> Duration {
         match self.start.elapsed(&self.clock) {
             Ok(elapsed) => elapsed,
@@ -57,14 +57,14 @@ impl<C: time::Clock> LifeClock for Monotonic<C> {
     }
 }
 
-/// The moment of so many milliseconds, or the last one.
+/// The moment of this number of milliseconds, or the last moment.
 pub fn moment_of(millis: u64) -> Moment
     ensures { millis < 2 ^ 63 → result ≡ millis }
 {
     Moment::new(millis.min(LAST_MOMENT)).unwrap()
 }
 
-/// The moment that is so many milliseconds later, or the last one.
+/// The moment this number of milliseconds later, or the last moment.
 pub fn moved_on(moment: Moment, millis: u64) -> Moment
     ensures { moment + millis < 2 ^ 63 → result ≡ moment + millis }
 {

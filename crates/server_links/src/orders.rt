@@ -1,17 +1,17 @@
-// What an operator tells a life.
+// The orders of an operator.
 ghost use Rattle.std.specs.Prelude.{◌≡◌, ◌≢◌, MatchOption};
 ghost use Rattle.server_links.specs.Orders.{order_word};
 
-/// What an operator tells a server over its control socket, as a line of one word.
+/// An operator's order to a server over its control socket: a line of one word.
 #[derive(Clone, Copy, Debug, PartialEq, Eq)]
 pub enum Order {
-    /// To end. The answer comes when it has.
+    /// End the life. The answer comes when it has ended.
     Stop,
-    /// To tell how it goes.
+    /// Send the life's counts.
     Status,
-    /// To list the devices.
+    /// Send the list of the devices.
     Devices,
-    /// To tell what happens, until it ends.
+    /// Send a line for each event, until the life ends.
     Watch,
 }
 

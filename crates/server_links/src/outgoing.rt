@@ -1,4 +1,4 @@
-// What is sent together.
+// Frames that are sent together.
 ghost use Rattle.std.specs.Prelude.{◌≡◌, ◌++◌, ◌≤◌, ◌↔◌, [], length, IsTrue, MatchResult};
 ghost use Rattle.lw_types.specs.declared.refusal.Refusal.TheVariants.{OutOfMemory};
 
@@ -24,7 +24,7 @@ impl Model for Outgoing {
 }
 
 impl Outgoing {
-    /// Nothing to be sent. Takes no memory.
+    /// No frames. Takes no memory.
     pub fn new(alloc: Global) -> Self
         ensures { result ≡ [] }
     {
@@ -33,15 +33,15 @@ impl Outgoing {
         }
     }
 
-    /// Gets the room for what is mostly sent together.
+    /// Reserves room for what is usually sent together.
     pub fn reserve(&mut self) -> Result<(), AllocError>
         ensures { self.new ≡ self.old }
     {
         self.bytes.reserve(MUCH + 1024)
     }
 
-    /// Puts a frame behind the others. Refused with `OutOfMemory` for want of memory, and then
-    /// nothing is changed.
+    /// Puts a frame after the others. Refused with `OutOfMemory` if memory runs out; then nothing
+    /// is changed.
     pub fn add(&mut self, frame: &[u8]) -> Result<(), Refusal>
         ensures { MatchResult result (λ _. self.new ≡ self.old ++ frame.now)
             (λ e. (e ≡ OutOfMemory) × (self.new ≡ self.old)) }
@@ -50,7 +50,7 @@ impl Outgoing {
         Ok(())
     }
 
-    /// Whether it is time to send.
+    /// Whether there is enough to send.
     pub fn is_much(&self) -> bool
         ensures { IsTrue result ↔ (MUCH ≤ length self.now) }
     {

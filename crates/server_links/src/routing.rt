@@ -1,4 +1,4 @@
-// Released effects go into the rings of whoever is told of them.
+// Putting released effects into the rings of their recipients.
 ghost use Rattle.std.specs.Prelude.{◌≡◌, ◌<◌, length, IfSome};
 ghost use Rattle.flusher.specs.Released.{effect_of, effects_of_all};
 ghost use Rattle.server_links.specs.Routing.{AreMarked, IsRouted, IsRoutedOne};
@@ -8,8 +8,8 @@ use flusher::Released;
 use gateway_wire::Recipient;
 use outbox::Outlet;
 
-/// Puts an effect into the ring of whoever is told of it, and gives the ring's number. `None` where
-/// there is no such ring, or it is full: the effect is lost.
+/// Puts an effect into the ring of its recipient, and returns the ring's number. `None` if there is
+/// no such ring, or if it is full: the effect is lost.
 fn route_one(directory: &Directory, outlets: &mut [Outlet], released: Released) -> Option<usize>
     ensures routed { IsRoutedOne directory.now (effect_of released) result outlets.old
         outlets.new }
@@ -25,9 +25,9 @@ fn route_one(directory: &Directory, outlets: &mut [Outlet], released: Released) 
     }
 }
 
-/// Puts effects into the rings of whoever is told of them, in order, and marks those rings, as far
-/// as there are marks. How many were lost; whom these were for stands in `missed`, as far as there
-/// is memory.
+/// Puts effects into the rings of their recipients, in order, and marks those rings, as far as
+/// there are marks. Returns how many were lost; `missed` gets their recipients, as far as there is
+/// memory.
 pub fn route(
     directory: &Directory,
     outlets: &mut [Outlet],

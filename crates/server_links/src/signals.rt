@@ -1,5 +1,5 @@
-// What the threads of a life tell each other. Whoever waits looks, finds nothing, and parks;
-// whoever rings changes something first, and rings then. So no change is missed.
+// The signals between the threads of a life. A thread that waits checks first, finds nothing, and
+// parks. A thread that rings changes something first, and then rings. So no change is missed.
 use std::sync::Wait;
 use std::sync::atomic::Ordering::SeqCst;
 use std::sync::atomic::{AtomicBool, AtomicU64};
@@ -7,19 +7,19 @@ use std::thread::Parker;
 
 #[derive(Drop)]
 pub struct Signals {
-    // How many workers may still hand something in.
+    // The number of workers that may still hand something in.
     open_inputs: AtomicU64,
     faulted: AtomicU64,
     dropped: AtomicU64,
     taken_over: AtomicU64,
     silent: AtomicU64,
-    // How often what was decided became durable.
+    // How often decisions became durable.
     commits: AtomicU64,
-    // How many links are in their places.
+    // The number of links in their places.
     linked: AtomicU64,
-    // Everything of the life is done but for the operators.
+    // Everything of the life is done, except for the operators.
     closed: AtomicBool,
-    // The life was told to end.
+    // The life was asked to end.
     ending: AtomicBool,
     // The store is at fault, and the links are closed.
     stopped: AtomicBool,
@@ -27,15 +27,15 @@ pub struct Signals {
     ticked: AtomicBool,
     // The closer waits for a window to open.
     closer_idle: AtomicBool,
-    // Frames were decided, and the flusher wasn't rung for them.
+    // Frames were decided for which the flusher hasn't been rung.
     frames_decided: AtomicBool,
-    // Rings for the flusher: something was decided, or the last tick was made.
+    // Wakes the flusher: something was decided, or the last tick was made.
     decided: Parker,
-    // Rings for the closer: a window is open, or all inputs have ended, or the life is stopped.
+    // Wakes the closer: a window is open, or all inputs have ended, or the life is stopped.
     pub opened: Parker,
 }
 
-/// The life was told to end, or is stopped. Only [`Signals::ending`] makes it.
+/// Shows that the life was asked to end or is stopped. Only [`Signals::ending`] makes it.
 #[derive(Clone, Copy)]
 pub struct Ending(());
 
@@ -60,7 +60,7 @@ impl Signals {
         }
     }
 
-    /// A link is read no further because of what it said.
+    /// Counts a link that is read no further because of what it sent.
     pub fn count_fault(&self) {
         self.faulted.fetch_add(1, SeqCst);
     }
@@ -69,7 +69,7 @@ impl Signals {
         self.faulted.load(SeqCst)
     }
 
-    /// So many effects were lost for want of a link or of room.
+    /// Counts this number of effects as lost, since they found no link or no room.
     pub fn count_dropped(&self, count: u64) {
         self.dropped.fetch_add(count, SeqCst);
     }
@@ -78,7 +78,7 @@ impl Signals {
         self.dropped.load(SeqCst)
     }
 
-    /// A link lost its name to one that greeted later.
+    /// Counts a link that lost its name to a later link.
     pub fn count_taken_over(&self) {
         self.taken_over.fetch_add(1, SeqCst);
     }
@@ -87,7 +87,7 @@ impl Signals {
         self.taken_over.load(SeqCst)
     }
 
-    /// A link didn't greet in time.
+    /// Counts a link that didn't greet in time.
     pub fn count_silent(&self) {
         self.silent.fetch_add(1, SeqCst);
     }
@@ -96,7 +96,7 @@ impl Signals {
         self.silent.load(SeqCst)
     }
 
-    /// What was decided became durable.
+    /// Counts that decisions became durable.
     pub fn count_commit(&self) {
         self.commits.fetch_add(1, SeqCst);
     }
@@ -105,12 +105,12 @@ impl Signals {
         self.commits.load(SeqCst)
     }
 
-    /// A link has come into a place.
+    /// Counts a link that came into a place.
     pub fn count_linked(&self) {
         self.linked.fetch_add(1, SeqCst);
     }
 
-    /// It has left the place.
+    /// Counts a link that left its place.
     pub fn count_unlinked(&self) {
         self.linked.fetch_sub(1, SeqCst);
     }
@@ -119,7 +119,7 @@ impl Signals {
         self.linked.load(SeqCst)
     }
 
-    /// Operators are attended to no longer.
+    /// Says that operators are no longer served.
     pub fn close(&self) {
         self.closed.store(true, SeqCst);
     }
@@ -128,24 +128,24 @@ impl Signals {
         self.closed.load(SeqCst)
     }
 
-    /// Whoever reads links says nothing more.
+    /// Says that one more worker hands nothing in any more.
     pub fn end_input(&self) {
         if self.open_inputs.fetch_sub(1, SeqCst) == 1 {
             self.opened.unpark();
         }
     }
 
-    /// The life ends once what has come is decided and sent.
+    /// Says that the life ends after what has come is decided and sent.
     pub fn set_ending(&self) {
         self.ending.store(true, SeqCst);
     }
 
-    /// Whether the life was told to end, or is stopped.
+    /// Whether the life was asked to end, or is stopped.
     pub fn is_ending(&self) -> bool {
         self.ending.load(SeqCst) || self.is_stopped()
     }
 
-    /// That the life ends, where it does.
+    /// Returns an `Ending` if the life ends.
     pub fn ending(&self) -> Option<Ending> {
         if self.is_ending() {
             Some(Ending(()))
@@ -154,7 +154,7 @@ impl Signals {
         }
     }
 
-    /// Whether no link says anything more, or the life is stopped.
+    /// Whether no link hands in anything more, or the life is stopped.
     pub fn is_over(&self) -> bool {
         self.is_stopped() || self.open_inputs.load(SeqCst) == 0
     }
@@ -168,22 +168,22 @@ impl Signals {
         self.stopped.load(SeqCst)
     }
 
-    /// What an application asked was decided.
+    /// Wakes the flusher, since an application's request was decided.
     pub fn ring_flusher(&self) {
         self.decided.unpark();
     }
 
-    /// Frames were decided. The closer rings the flusher for them when it looks next.
+    /// Says that frames were decided. The closer wakes the flusher for them at its next turn.
     pub fn tell_frames(&self) {
         self.frames_decided.store(true, SeqCst);
     }
 
-    /// Whether frames were decided for which the flusher wasn't rung.
+    /// Whether frames were decided for which the flusher hasn't been rung.
     pub fn has_frames(&self) -> bool {
         self.frames_decided.load(SeqCst)
     }
 
-    /// Rings the flusher, where frames were decided since the last call.
+    /// Wakes the flusher if frames were decided since the last call.
     pub fn ring_for_frames(&self) {
         if self.frames_decided.swap(false, SeqCst) {
             self.decided.unpark();
@@ -195,7 +195,7 @@ impl Signals {
         self.decided.park(rt);
     }
 
-    /// Nothing is decided any more.
+    /// Says that nothing is decided any more.
     pub fn tell_ticked(&self) {
         self.ticked.store(true, SeqCst);
         self.decided.unpark();
@@ -205,7 +205,7 @@ impl Signals {
         self.ticked.load(SeqCst)
     }
 
-    /// The closer is about to look for a window, and waits where it finds none.
+    /// Says that the closer is about to look for a window, and waits if it finds none.
     pub fn set_idle(&self) {
         self.closer_idle.store(true, SeqCst);
     }
@@ -214,7 +214,8 @@ impl Signals {
         self.closer_idle.store(false, SeqCst);
     }
 
-    /// A window may have opened. The closer is rung where it waits for one, and not for each frame.
+    /// Says that a window may have opened. This wakes the closer only if it waits for a window, so
+    /// not for each frame.
     pub fn tell_opened(&self) {
         if self.closer_idle.swap(false, SeqCst) {
             self.opened.unpark();

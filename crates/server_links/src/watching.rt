@@ -1,4 +1,4 @@
-// Operators who watch are told what happens.
+// Sending events to operators who watch.
 ghost use Rattle.std.specs.Prelude.{◌≡◌, IfErr};
 ghost use Rattle.lw_types.specs.declared.refusal.Refusal.TheVariants.{OutOfMemory};
 
@@ -12,16 +12,17 @@ use std::sync::{Mutex, Wait};
 use std::thread::Parker;
 use std::time::Duration;
 
-/// How many operators may watch at a time.
+/// The most operators who watch at a time.
 pub const MOST_WATCHERS: usize = 4;
 
-// How many lines wait for an operator at most; others are left out.
+// The most lines that wait for an operator; further lines are left out.
 const MOST_WAITING: u64 = 1024;
 
-// The longest wait at a window, in seconds. Its attendant looks then whether the operator is there.
+// The longest wait for lines, in seconds. After that the attendant checks whether the operator is
+// still connected.
 const LONGEST_WAIT: u64 = 1;
 
-/// The lines that wait for an operator, how many these are, and how many are left out behind them.
+/// The lines that wait for an operator, their number, and how many lines after them were left out.
 #[derive(Drop)]
 pub struct Waiting {
     text: String,
@@ -29,16 +30,16 @@ pub struct Waiting {
     left_out: u64,
 }
 
-// A window at which an operator may stand.
+// A place for one operator who watches.
 #[derive(Drop)]
 struct Lookout {
-    // None where nobody stands there.
+    // `None` if the place is free.
     waiting: Mutex<Option<Waiting>>,
-    // Rings for whoever stands there.
+    // Wakes the attendant of the operator in this place.
     bell: Parker,
 }
 
-/// Where operators watch from.
+/// The places for operators who watch.
 #[derive(Drop)]
 pub struct Watch {
     alloc: Global,
@@ -47,7 +48,7 @@ pub struct Watch {
 }
 
 impl Watch {
-    /// Nobody watches.
+    /// Places without operators.
     pub fn new(alloc: Global) -> Result<Self, Refusal>
         ensures { IfErr result (λ e. e ≡ OutOfMemory) }
     {
@@ -70,8 +71,8 @@ impl Watch {
         self.watchers.load(SeqCst) > 0
     }
 
-    /// Tells each operator who watches. It waits for nobody who reads, and costs nothing while
-    /// nobody watches.
+    /// Sends an event to each operator who watches. It never waits for an operator to read, and
+    /// does nothing while nobody watches.
     pub fn tell<R: Wait>(&self, rt: &R, sight: Sight) {
         if !self.is_watched() {
             return;
@@ -85,7 +86,7 @@ impl Watch {
         }
     }
 
-    /// Somebody comes to watch, and gets the number of a window; `None` where each has somebody.
+    /// Gives an operator a place, and returns its number; `None` if all places are taken.
     pub fn enter<R: Wait>(&self, rt: &R) -> Option<usize> {
         for (number, lookout) in self.lookouts.iter().enumerate() {
             let mut waiting = lookout.waiting.lock(rt);
@@ -98,14 +99,14 @@ impl Watch {
         None
     }
 
-    /// What waits at a window. Nothing waits there then.
+    /// Takes the lines that wait in a place.
     pub fn take<R: Wait>(&self, rt: &R, number: usize) -> Option<Waiting> {
         let lookout = self.lookouts.get(number)?;
         let mut waiting = lookout.waiting.lock(rt);
         Some(mem::replace(waiting.as_mut()?, Waiting::new(self.alloc)))
     }
 
-    /// Waits at a window until something may have come, for a second at most.
+    /// Waits in a place until lines may have come, for at most a second.
     pub fn wait<R: Wait>(&self, rt: &R, number: usize) {
         if let Some(lookout) = self.lookouts.get(number) {
             let longest = Duration::from_secs(LONGEST_WAIT);
@@ -113,7 +114,7 @@ impl Watch {
         }
     }
 
-    /// Whoever stood at a window has gone.
+    /// Frees a place.
     pub fn leave<R: Wait>(&self, rt: &R, number: usize) {
         if let Some(lookout) = self.lookouts.get(number) {
             *lookout.waiting.lock(rt) = None;
@@ -121,7 +122,7 @@ impl Watch {
         }
     }
 
-    /// Whoever waits looks again.
+    /// Wakes each waiting attendant to check again.
     pub fn ring(&self) {
         for lookout in &self.lookouts {
             lookout.bell.unpark();
@@ -129,7 +130,7 @@ impl Watch {
     }
 }
 
-// The line that tells it, with its newline; `Err` for want of memory.
+// The line of the event, with its newline; `Err` if memory runs out.
 fn told_line(alloc: Global, sight: Sight) -> Result<String, AllocError> {
     let mut line = sight.line(alloc)?;
     line.push_str("\n")?;
@@ -150,7 +151,8 @@ impl Waiting {
         self.lines == 0 && self.left_out == 0
     }
 
-    // One line more. It is left out where there is no room or no memory, or one before it was.
+    // Adds a line. It is left out if there is no room or no memory, or if an earlier one was left
+    // out.
     fn add(&mut self, line: &Result<String, AllocError>) {
         if self.left_out == 0 && self.lines < MOST_WAITING {
             if let Ok(line) = line {
@@ -163,7 +165,7 @@ impl Waiting {
         self.left_out = self.left_out.saturating_add(1);
     }
 
-    /// The lines, each with a newline; the last one tells how many were left out.
+    /// The lines, each with a newline; the last one says how many were left out.
     pub fn into_text(self, alloc: Global) -> Result<String, Refusal> {
         let Waiting {
             text,

@@ -1,4 +1,4 @@
-// A sender writes a link.
+// A sender, which writes to a link.
 ghost use Rattle.std.specs.Prelude.{◌≡◌, ◌≤◌, ◌+◌, ◌⊎◌, ◌↔◌, [], None, length, option_map, IsTrue};
 ghost use Rattle.outbox.specs.Ring.{seen_by, taken_from};
 ghost use Rattle.rtrb.specs.Ring.{known_items, received};
@@ -23,7 +23,7 @@ use std::sync::Wait;
 // How many refusals are put together before they are sent.
 const SOME_REFUSALS: u32 = 64;
 
-// How many writes in a row may wait in vain once nothing more comes. Each waits a second.
+// The number of writes in a row that may time out after nothing more comes. Each waits a second.
 const PATIENCE: u32 = 8;
 
 /// A link's sender.
@@ -32,24 +32,24 @@ pub struct Sender<'x, R: Wait> {
     pub rt: &'x R,
     pub alloc: Global,
     pub signals: &'x Signals,
-    // Where operators watch from, if there are any.
+    // The operators who watch, if there are any.
     pub watch: Option<&'x Watch>,
     pub link: &'x Link,
     pub stream: &'x TcpStream,
-    // Whose link it is, as far as the sender knows.
+    // The name of the link's peer, as far as the sender knows.
     pub name: Option<&'x Recipient>,
     pub inlet: Inlet,
     pub refusals: Consumer<Refusal>,
     pub outgoing: Outgoing,
-    // What wasn't sent when the link broke waits for the next one of its name.
+    // What wasn't sent when the link broke waits for the next link of its name.
     pub keeps: bool,
-    // The link takes nothing any more.
+    // The link takes no more data.
     pub is_broken: bool,
 }
 
 impl<'x, R: Wait> Sender<'x, R> {
-    /// Writes what leaves on the link until nothing more can come, and says then that nothing will.
-    /// Gives back what the next sender of the place uses.
+    /// Writes to the link until nothing more can come, and then ends its output. Returns what the
+    /// next sender of the place uses.
     pub fn run(self) -> Spare {
         let mut sender = self;
         let _ = sender.outgoing.reserve();
@@ -57,7 +57,8 @@ impl<'x, R: Wait> Sender<'x, R> {
             if sender.signals.is_stopped() || sender.is_given_up() {
                 break;
             }
-            // What was put before the end was told is seen by the looks behind this one.
+            // This is read first: if it is true, everything that was put before is seen by the
+            // reads after it.
             let is_last = sender.is_last();
             if sender.send_some() {
                 continue;
@@ -74,7 +75,7 @@ impl<'x, R: Wait> Sender<'x, R> {
         }
     }
 
-    // Whether what waits is left for the next link of this name.
+    // Whether the sender leaves what waits for the next link of this name.
     fn is_given_up(&self) -> bool
         ensures keeps { IsTrue result → IsTrue self.now.keeps }
         ensures broken { IsTrue self.now.keeps → IsTrue self.now.is_broken → IsTrue result }
@@ -87,7 +88,7 @@ impl<'x, R: Wait> Sender<'x, R> {
         self.link.is_over() || self.inlet.is_finished()
     }
 
-    // Sends some of what waits, refusals first. Whether there was something.
+    // Sends some of what waits, refusals first. Returns whether there was something.
     fn send_some(&mut self) -> bool {
         let mut stream = self.stream;
         let handed = self.hand_over(&mut stream);
@@ -139,7 +140,8 @@ impl<'x, R: Wait> Sender<'x, R> {
         }
     }
 
-    // Whether there was one. On a broken link nobody is told.
+    // Takes refusals and puts their answers after the outgoing frames; on a broken link none are
+    // put. Returns whether there were any.
     fn gather_refusals(&mut self) -> bool
         ensures answered { HaveAnswered self.old.is_broken (received self.old.refusals)
             (received self.new.refusals) result self.old.outgoing self.new.outgoing }
@@ -164,7 +166,7 @@ impl<'x, R: Wait> Sender<'x, R> {
         some
     }
 
-    // Nothing is there for a link on which nobody has greeted.
+    // Takes effects for the link's name. Nothing comes for a link whose peer hasn't greeted.
     fn gather_effects(&mut self) -> Gathered
         ensures gathered { AreGathered (option_map (λ name. name.now) self.new.name)
             (taken_from self.old.inlet) (taken_from self.new.inlet) result.taken result.lost
@@ -193,8 +195,8 @@ impl<'x, R: Wait> Sender<'x, R> {
     }
 }
 
-// Whether the link took all of these bytes. While it takes nothing the sender waits, for ever,
-// unless nothing more comes: then it gives the link up.
+// Returns whether the link took all of these bytes. While the link takes nothing, the sender keeps
+// waiting; but if nothing more comes, it gives up the link after eight waits.
 fn send_bytes<R: Wait, W: Write>(
     rt: &R,
     signals: &Signals,
@@ -246,31 +248,31 @@ pub struct Spare {
     pub outgoing: Outgoing,
 }
 
-/// A link that has greeted: its socket, and its name.
+/// A link whose peer has greeted: its socket and its name.
 #[derive(Drop)]
 pub struct Call {
     pub stream: TcpStream,
     pub name: Recipient,
 }
 
-/// What a sender of a place has for its one link.
+/// What a sender of a place uses for one link.
 #[derive(Drop)]
 pub struct HostSender<'x, R: Wait> {
     pub rt: &'x R,
     pub alloc: Global,
     pub signals: &'x Signals,
     pub watch: Option<&'x Watch>,
-    // What waits for it, where it is an application that has a ring of its own.
+    // The lines that wait, if the peer is an application with a ring of its own.
     pub lines: Option<&'x WaitingLines>,
-    // All links: a sender of one of them may wait for these lines.
+    // All links: the sender of another link may wait for these lines.
     pub links: &'x [Link],
     pub link: &'x Link,
     pub call: &'x Call,
 }
 
 impl<'x, R: Wait> HostSender<'x, R> {
-    /// Writes what leaves on the link, with what the place has for it; a gateway's by the ring of
-    /// the place, an application's by its own.
+    /// Writes to the link with what the place has for it. A gateway's effects come from the ring of
+    /// the place, an application's from its own ring.
     pub fn run(self, refusals: Consumer<Refusal>) {
         let Some(spare) = self.link.spare.lock(self.rt).take() else {
             return;
@@ -282,8 +284,8 @@ impl<'x, R: Wait> HostSender<'x, R> {
         *self.link.spare.lock(self.rt) = Some(spare);
     }
 
-    // The ring of an application is there once the sender of its older link has ended, which rings
-    // then.
+    // The ring of an application is available after the sender of its older link has ended. That
+    // sender then rings.
     fn send_lines(&self, lines: &WaitingLines, spare: Spare, refusals: Consumer<Refusal>) -> Spare {
         let Some(inlet) = self.wait_for(lines) else {
             return spare;
@@ -303,7 +305,7 @@ impl<'x, R: Wait> HostSender<'x, R> {
         }
     }
 
-    // `None` where the link has ended, or the life is stopped, before the ring is there.
+    // `None` if the link ended, or the life was stopped, before the ring was available.
     fn wait_for(&self, lines: &WaitingLines) -> Option<Inlet> {
         for _ in self.rt.forever() {
             let inlet = lines.lock(self.rt).take();
@@ -338,8 +340,8 @@ impl<'x, R: Wait> HostSender<'x, R> {
     }
 }
 
-/// Whether a write that failed so may be tried again: it was interrupted, or nothing was taken in
-/// the time that it had.
+/// Whether a write with this error may be tried again: it was interrupted, or nothing was taken in
+/// its time.
 pub fn is_passing(kind: ErrorKind) -> bool
     ensures { IsTrue result
         ↔ ((kind ≡ ErrorKind.Interrupted) ⊎ (kind ≡ ErrorKind.WouldBlock)) }

@@ -1,4 +1,4 @@
-// The lines that tell an operator what happens.
+// The lines of events for operators.
 use devices::{Application, SessionName};
 use gateway_wire::Recipient;
 use lw_types::{DevAddr, Eui, JoinNonce, Reception, Refusal};
@@ -15,8 +15,8 @@ const RECEPTION: Reception = Reception {
     rssi: -95,
 };
 
-// A Join-Request and an uplink, made by a device that is none of ours (examples/outside), and bytes
-// that are no frame: what each says of itself.
+// A Join-Request and an uplink, made by an outside device (examples/outside), and bytes that are no
+// frame: what each says of itself.
 const FRAMES: &[(&[u8], FrameName)] = &[
     (
         &[

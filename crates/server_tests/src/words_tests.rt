@@ -2,8 +2,8 @@
 use gateway_server::{Mode, Usage, words};
 use std::alloc::{AllocError, Global};
 
-// Words, and what they ask for: a command with its values, help, or nothing. A NetID is told as its
-// number.
+// Words, and what they ask for: a command with its values, help, or nothing. A NetID is printed as
+// its number.
 const ROWS: &[(&str, &str)] = &[
     ("format store --netid 00002A --slots 8", "format store 42 8"),
     ("format store --slots 1 --netid 000000", "format store 0 1"),
@@ -173,7 +173,7 @@ fn words_ask_for_one_thing(rt: HostRuntime) {
     }
 }
 
-// What help has to tell of each word, with its unit and its range.
+// What help has to say of each word, with its unit and its range.
 const HELPS: &[(&str, &[&str])] = &[
     (
         "--help",

@@ -1,4 +1,4 @@
--- What an event leaves of the numbers made and taken.
+-- How an event changes the numbers made and taken.
 use Rattle.std.proofs.Common.{◌≡◌, ◌≤◌, ◌+◌, ◌∙◌, ℕ, zero, suc, Bool, true, false, Option, Result, Ok, Err, refl, sym, ap, subst, arith, rules}
 use Rattle.std.specs.Bool.{MatchBool}
 use Rattle.lw_types.specs.Answer.{Answers, AnswersWithMemory}
@@ -14,7 +14,7 @@ use Rattle.session_core.specs.Deciding.{Keeps, Makes, verdict_of, step_if_room}
 use Rattle.session_core.specs.Events.{Asks, Closes, Handles, HasClosed, Hears, IsTurn, Starves, Ticks, has_due, core_at_moment}
 use Rattle.session_core.specs.declared.turn.Turn.{Turn}
 
--- no decision is lost from the number made, and none is taken
+-- the number made doesn't fall, and nothing is taken
 pub record Grows (old new : DecisionsState) : Type 0 where
   pub made : old.made ≤ new.made
   pub taken : new.taken ≡ old.taken

@@ -40,13 +40,13 @@ drop_further (suc n) k (x ∷ xs) =
     let more : suc n + k ≡ suc (n + k) = omega arith in
     drop_further n k xs ∙ sym (ap (λ i. drop i (x ∷ xs)) more)
 
--- of no more than are kept, all are
+-- of no more than are kept, all are kept
 keep_few : {X : Type 0} (n : ℕ) (xs : List X) → length xs ≤ n → keep_last n (xs ++ []) ≡ xs
 keep_few n xs few =
     let none : length xs - n ≡ 0 = omega arith in
     ap (keep_last n) (append-nil xs) ∙ ap (λ i. drop i xs) none
 
--- what is dropped at once is dropped later
+-- what is dropped at once may also be dropped later
 keep_again : {X : Type 0} (n : ℕ) (xs ys : List X) → keep_last n (keep_last n xs ++ ys) ≡ keep_last n (xs ++ ys)
 keep_again n xs ys =
     let k : ℕ = length xs - n in
@@ -67,7 +67,7 @@ length_keep n xs = let len = length-drop (length xs - n) xs in omega (arith, len
 
 -- ---- commands one after another
 
--- what a core has after these were handed in
+-- the state of a core after these were handed in
 record Comes (old : CoreState) (hs : List Handling) (new : CoreState) : Type 0 where
   log : new.decisions.log ≡ old.decisions.log ++ decisions_in hs
   made : new.decisions.made ≡ old.decisions.made + length (decisions_in hs)
@@ -117,7 +117,7 @@ comes-then a b c hs ks h k =
       lawful = k.lawful;
     }
 
--- the moment of an event has no part in it
+-- the moment of an event doesn't matter
 comes-moment : (old : CoreState) (moment : ℕ) (hs : List Handling) (new : CoreState) → Comes (core_at_moment old moment) hs new → Comes old hs new
 comes-moment old moment hs new h =
     record { log = h.log; made = h.made; base = h.base; opening = h.opening; taken = h.taken; outcomes = h.outcomes; few = h.few; lawful = h.lawful }
@@ -137,7 +137,7 @@ refused-outcomes : (s : CoreState) (d : DecisionsState) (command : Command) (e :
 refused-outcomes s d command OutOfMemory few = sym (keep_few MOST_OUTCOMES s.outcomes few)
 refused-outcomes s d command e few = refl
 
--- what came of one command
+-- the result of one command
 record One (old : CoreState) (command : Command) (result : Result (Unit {0}) Refusal) (new : CoreState) : Type 0 where
   h : Handling
   is_command : command_in h ≡ command
@@ -265,7 +265,7 @@ closes-so (suc n) old last closes few lawful =
 
 -- ---- turns
 
--- two runs of decisions continue a table where the second continues what the first leaves
+-- two runs of decisions continue a table if the second continues what the first leaves
 abbrev Joins : Type 0
 Joins =
     (t : TableState) (seq : ℕ) (first second : List Decision)
@@ -339,7 +339,7 @@ ticked-own : (s : CoreState) (refused : Option Refusal) (new : CoreState) → Ti
 ticked-own s refused new h =
     same-own s refused new (ap (λ (s : CoreState). s.decisions) h.1) (ap (λ (s : CoreState). s.outcomes) h.1) (ap (λ (s : CoreState). s.closings) h.1)
 
--- a command that isn't handed in, for want of memory before it
+-- a command that isn't handed in, since memory ran out before
 starved-asked : (command : Command) (s : CoreState) (refused : Option Refusal) (new : CoreState) → Starves s refused new → Few s → IsLawful s.decisions → OwnSo s (command ∷ []) refused new
 starved-asked command s refused new h few lawful =
     let none = comes-none s new (ap (λ (s : CoreState). s.decisions) h.1) (ap (λ (s : CoreState). s.outcomes) h.1) few lawful in

@@ -20,7 +20,7 @@ use Rattle.lw_types.specs.RefusalLemmas.{same_Err}
 abbrev pub after_making : DecisionsState → Decision → DecisionsState
 after_making s d = record s { log = s.log ++ d ∷ []; made = s.made + 1 }
 
--- there is room where few wait and a number is left
+-- there is room if few decisions wait and a number is left
 pub room-few : (s : DecisionsState) → has_room s ≡ true → (length s.log < MOST_UNTAKEN) × (last_number s < LAST_NUMBER)
 room-few s room =
     let parts = and_parts (nat_lt (length s.log) MOST_UNTAKEN) (nat_lt (last_number s) LAST_NUMBER) room in
@@ -37,7 +37,7 @@ decided = Ok tt
 not_both : {A : Type 0} (x : A) (e : Refusal) → ◌≡◌ {A = Result A Refusal} (Ok x) (Err e) → ⊥
 not_both x e h = cc
 
--- what is answered with a value is wanted
+-- what is returned as a value is wanted
 answered_ok : {A B : Type 0} (b : Bool) (w : Result A Refusal) (Is : A → B → Type 0) (y : B)
     → MatchBool b (Answers w Is (Ok y)) (AnswersWithMemory w Is (Ok y)) → (x : A) × (w ≡ Ok x) × Is x y
 answered_ok true (Ok x) Is y h = (x, refl, h)
@@ -45,7 +45,7 @@ answered_ok true (Err e) Is y h = absurd (not_both y e h)
 answered_ok false (Ok x) Is y h = (x, refl, h)
 answered_ok false (Err e) Is y h = absurd h
 
--- a value that is wanted is answered
+-- a value that is wanted is returned
 answers_ok : {A B : Type 0} (b : Bool) (Is : A → B → Type 0) (x : A) (y : B) → Is x y
     → MatchBool b (Answers (Ok x) Is (Ok y)) (AnswersWithMemory (Ok x) Is (Ok y))
 answers_ok true Is x y h = h
@@ -64,9 +64,9 @@ decided-made s c d room made new is =
     subst (λ w. AnswersTo c w (λ st _. Makes s c st new) decided) (sym (wanted-room s c room ∙ st.1))
     (answers_ok (is_frugal c (Ok st.0)) (λ st _. Makes s c st new) st.0 (tt {0}) (record { decision = d; is_step = st.2; new_is = is }))
 
--- ---- where there is no memory
+-- ---- when memory is out
 
--- a refusal is answered whatever a value would be
+-- a refusal is returned for any value that would be wanted
 refused_as : {B C : Type 0} (Is : TableStep → B → Type 0) (Is' : TableStep → C → Type 0) (b : Bool) (w : Result TableStep Refusal) (e : Refusal)
     → MatchBool b (Answers w Is (Err e)) (AnswersWithMemory w Is (Err e)) → MatchBool b (Answers w Is' (Err e)) (AnswersWithMemory w Is' (Err e))
 refused_as {B} {C} Is Is' true (Ok x) e h = h
@@ -91,7 +91,7 @@ pub lacks-full : (s : DecisionsState) (c : Command) → has_room s ≡ false →
 lacks-full s c full =
     subst (λ w. AnswersTo c w NoStep (Err Backlog)) (sym (ap (λ b. cond b (step (now_of s) c) (Err Backlog)) full)) (no_room NoStep (is_frugal c (Err Backlog)))
 
--- no room is answered before anything else
+-- a lack of room is returned before anything else
 pub full-there : (s : DecisionsState) (c : Command) (Is : TableStep → Unit {0} → Type 0) → has_room s ≡ false → AnswersTo c (step_if_room s c) Is (Err Backlog)
 full-there s c Is full = subst (λ w. AnswersTo c w Is (Err Backlog)) (sym (ap (λ b. cond b (step (now_of s) c) (Err Backlog)) full)) (no_room Is (is_frugal c (Err Backlog)))
 
@@ -99,7 +99,7 @@ module _ (s : DecisionsState) (t : TableState) (c : Command) (now : t ≡ now_of
   here : step_if_room s c ≡ step t c
   here = wanted-room s c room ∙ ap (λ (t : TableState). step t c) (sym now)
 
-  -- a refusal of the table is handed on
+  -- a refusal of the table is passed on
   pub refused-there : (seq : ℕ) (Is : TableStep → Unit {0} → Type 0) (e : Refusal) (result : Result (Unit {0}) Refusal) → IsErrAnd result (λ x. x ≡ e)
       → Decides t seq c (Err e) → AnswersTo c (step_if_room s c) Is result
   refused-there seq Is e result handed answer =
@@ -107,7 +107,7 @@ module _ (s : DecisionsState) (t : TableState) (c : Command) (now : t ≡ now_of
       subst (AnswersTo c (step_if_room s c) Is) (sym (r.1 ∙ ap Err r.2))
       (subst (λ w. AnswersTo c w Is (Err e)) (sym here) (refused_as (IsDecision t seq c) Is (is_frugal c (step t c)) (step t c) e answer))
 
-  -- and there is no memory to keep what was decided
+  -- and memory to store what was decided is out
   pub not-kept : (seq : ℕ) (Is : TableStep → Unit {0} → Type 0) (d : Decision) (result : Result (Unit {0}) Refusal) → IsErrAnd result (λ x. x ≡ OutOfMemory)
       → Decides t seq c (Ok d) → AnswersTo c (step_if_room s c) Is result
   not-kept seq Is d result none made =
@@ -126,7 +126,7 @@ module _ (s : DecisionsState) (t : TableState) (c : Command) (now : t ≡ now_of
   pub lacks-err : (e : Refusal) → AnswersTo c (step t c) AnyStep (Err e) → IsWithoutMemory s c e
   lacks-err e weighed = subst (λ w. AnswersTo c w NoStep (Err e)) (sym here) (refused_as AnyStep NoStep (is_frugal c (step t c)) (step t c) e weighed)
 
--- so its turn is refused so
+-- so its turn is refused in this way
 pub lacks-turned : (s : DecisionsState) (c : Command) (Is : TableStep → Unit {0} → Type 0) (e : Refusal) → IsWithoutMemory s c e → AnswersTo c (step_if_room s c) Is (Err e)
 lacks-turned s c Is e lacks = refused_as NoStep Is (is_frugal c (step_if_room s c)) (step_if_room s c) e lacks
 
@@ -137,7 +137,7 @@ drop_min (suc n) (x ∷ xs) =
     let on : min (suc n) (length (x ∷ xs)) ≡ suc (min n (length xs)) = omega arith in
     ap (λ k. drop k (x ∷ xs)) on ∙ drop_min n xs
 
--- Two runs of decisions are one, and what they leave can be taken back.
+-- Two runs of decisions are one run, and what they leave can be undone.
 module _
     (continues : (t : TableState) (seq : ℕ) (first second : List Decision) → ContinueAll t seq (first ++ second)
     ↔ (ContinueAll t seq first × ContinueAll (with_decisions t first) (seq + length first) second))
@@ -203,7 +203,7 @@ module _
       ∙ (ap (λ b. record s { base = b; taken = s.taken + n; log = drop n s.log }) (back front (drop n s.log) (parts s n lawful).1.fit)
       ∙ ap (λ k. record s { base = front; taken = s.taken + k; log = drop n s.log }) (sym (length-take-le n s.log within))))
 
--- as many are taken as there are
+-- taking more decisions than there are takes all of them
 pub taken-min : (s : DecisionsState) (n most : ℕ) → n ≡ min most (length s.log) → after_taking s n ≡ after_taking s most
 taken-min s n most least =
     ap (λ l. record s { base = with_decisions s.base l; taken = s.taken + length l; log = drop n s.log }) (ap (λ k. take k s.log) least ∙ take_min most s.log)

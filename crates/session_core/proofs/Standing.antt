@@ -1,4 +1,4 @@
--- The windows of a core stand for the groups of the copies that it accepted.
+-- The windows of a core represent the groups of the copies that it accepted.
 use Rattle.std.proofs.Common.{◌≡◌, ◌≤◌, ◌+◌, ◌∙◌, ℕ, zero, suc, max, Bool, true, false, List, [], ◌∷◌, ◌++◌, Option, Some, None, Result, Ok, Err, refl, sym, ap, subst, arith}
 use Rattle.std.specs.Bool.{MatchBool}
 use Rattle.std.specs.List.{All}
@@ -114,7 +114,7 @@ module _
       → StandFor old.windows arrivals closed old.clock → StandFor new.windows arrivals (closed + new.closings) new.clock
   stand-ticked old new moment closed turn h s = stand_turned Ticks keeps-ticked old new moment closed turn h s
 
-  -- one for which there was no memory
+  -- an event for which memory ran out
   pub stand-missed : (copy : FrameCopy) (old new : CoreState) (moment closed : ℕ) (turn : Turn) → IsTurn old moment Starves turn new
       → StandFor old.windows arrivals closed old.clock → StandFor new.windows (with_copy turn.refused new.clock copy arrivals) (closed + new.closings) new.clock
   stand-missed copy old new moment closed turn h s =

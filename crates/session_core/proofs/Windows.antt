@@ -1,4 +1,4 @@
--- Windows that are closed, and what comes of their commands.
+-- Windows that are closed, and the results of their commands.
 use Rattle.std.proofs.Common.{◌≡◌, ◌≢◌, ◌≤◌, ◌<◌, ◌+◌, ◌∙◌, ℕ, zero, suc, Bool, true, false, ◌||◌, List, [], ◌∷◌, ◌++◌, length, cond, nat_le, Option, Some, None, Result, Ok, Err, refl, sym, ap, subst, arith}
 use Rattle.std.specs.List.{All, list_any}
 use Rattle.std.specs.Bool.{MatchBool}
@@ -26,7 +26,7 @@ use Rattle.session_core.proofs.Lawful.{lacks-full, lacks-turned}
 
 -- ---- windows
 
--- whatever opened before a moment did so before a later one
+-- what opened before a moment also opened before a later one
 pub opened-later : (a b : ℕ) (ws : List Window) → a ≤ b → All (λ w. w.opened ≤ a) ws → All (λ w. w.opened ≤ b) ws
 opened-later a b ws le h = All-weaker (λ (w : Window). w.opened ≤ a) (λ (w : Window). w.opened ≤ b) (λ w x. omega arith) ws h
 
@@ -288,7 +288,7 @@ counted n old last new closes is =
       new_is = is ∙ ap (λ n. record last { closings = n }) (sym count);
     }
 
--- an event whose own was done
+-- an event whose own work was done
 pub turned-own : (old between new : CoreState) (moment : ℕ) (Own : CoreState → Option Refusal → CoreState → Type 0) (turn : Turn) → HasClosed (core_at_moment old moment) between
     → has_due between ≡ false → Own between turn.refused new → turn.from ≡ old.decisions.made → turn.to ≡ new.decisions.made → IsTurn old moment Own turn new
 turned-own old between new moment Own turn closed none own from to =
@@ -300,7 +300,7 @@ turned-own old between new moment Own turn closed none own from to =
       to = to;
     }
 
--- and one for whose closings there was no memory
+-- and one for whose closings memory ran out
 pub turned-starved : (old between new : CoreState) (moment : ℕ) (Own : CoreState → Option Refusal → CoreState → Type 0) (turn : Turn) → HasClosed (core_at_moment old moment) between
     → has_due between ≡ true → turn.refused ≡ Some OutOfMemory → new ≡ between → turn.from ≡ old.decisions.made → turn.to ≡ new.decisions.made → IsTurn old moment Own turn new
 turned-starved old between new moment Own turn closed some refused same from to =

@@ -1,5 +1,5 @@
--- What a core keeps: the decisions of its life, its clock, the windows that are open, and what came
--- of the last commands.
+-- The state of a core: the decisions of its life, its clock, the open windows, and the outcomes of
+-- the last commands.
 use Rattle.std.specs.Prelude.{◌≤◌, ℕ, List, [], ◌∷◌, ◌++◌, All, Result, Ok, Err}
 use Rattle.circular_buffer.specs.Buffer.{keep_last}
 use Rattle.lw_types.specs.declared.refusal.Refusal.{Refusal}
@@ -11,8 +11,9 @@ use Rattle.session_core.specs.declared.outcome.TheConstants.{MOST_OUTCOMES}
 use Rattle.session_core.specs.declared.outcome.Outcome.{Outcome}
 use Rattle.session_core.specs.declared.outcome.Outcome.TheVariants.{Decided, Refused}
 
--- The decisions, the effective time, the windows that are open, the oldest first, how many the last
--- event closed, and what came of the last commands that were handed in, the oldest first.
+-- The decisions; the effective time; the open windows, the oldest first; the number of windows that
+-- the last event closed; and the outcomes of the last commands that were handed in, the oldest
+-- first.
 pub record CoreState : Type 0 where
   pub decisions : DecisionsState
   pub clock : ℕ
@@ -41,8 +42,8 @@ abbrev pub with_last_outcome : CoreState → Outcome → CoreState
 with_last_outcome s outcome =
     record s { outcomes = keep_last MOST_OUTCOMES (s.outcomes ++ outcome ∷ []) }
 
--- the outcome of a command that was decided, which leaves these decisions, or refused; want of
--- memory is none
+-- the outcome of a command that was decided, which leaves these decisions, or refused; out of
+-- memory is no outcome
 abbrev pub with_outcome : CoreState → DecisionsState → Result (Unit {0}) Refusal → CoreState
 with_outcome s decisions (Ok done) =
     with_last_outcome (record s { decisions = decisions }) (Decided (last_number decisions))

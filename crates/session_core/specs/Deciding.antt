@@ -1,4 +1,4 @@
--- What becomes of a command, and what a take leaves.
+-- The result of a command, and what a take leaves.
 use Rattle.std.specs.Prelude.{◌≡◌, ◌+◌, ℕ, Bool, false, [], ◌∷◌, ◌++◌, length, take, drop, nat_lt}
 use Rattle.std.specs.Prelude.{◌&&◌, if◌then◌else◌, Option, Some, None, Result, Ok, Err, OnErr}
 use Rattle.lw_types.specs.declared.refusal.Refusal.{Refusal}
@@ -10,29 +10,28 @@ use Rattle.sessions.specs.declared.decision.Decision.{Decision}
 use Rattle.session_core.specs.declared.decisions.TheConstants.{LAST_NUMBER, MOST_UNTAKEN}
 use Rattle.session_core.specs.State.{DecisionsState, IsLawful, now_of, last_number}
 
--- whether there is room for one decision more that waits, and a number for it
+-- whether there is room for one more waiting decision, and a number for it
 abbrev pub has_room : DecisionsState → Bool
 has_room s = nat_lt (length s.log) MOST_UNTAKEN && nat_lt (last_number s) LAST_NUMBER
 
--- what a command is to get: while there is room, its step in the table as it is now
+-- what a command gets: if there is room, its step in the table as it is now
 abbrev pub step_if_room : DecisionsState → Command → Result TableStep Refusal
 step_if_room s command = if has_room s then step (now_of s) command else Err Backlog
 
--- one decision more, which is this step of the command
+-- one more decision, which is this step of the command
 pub record Makes (old : DecisionsState) (command : Command) (s : TableStep)
     (new : DecisionsState) : Type 0 where
   pub decision : Decision
   pub is_step : IsDecision (now_of old) (last_number old + 1) command s decision
   pub new_is : new ≡ record old { log = old.log ++ decision ∷ []; made = old.made + 1 }
 
--- this is answered to a command that there is no memory for
+-- this is the answer to a command when memory is out
 abbrev pub IsWithoutMemory : DecisionsState → Command → Refusal → Type 0
 IsWithoutMemory s command refusal =
     AnswersTo {B = Unit {0}} command (step_if_room s command) (λ _ _. ⊥) (Err refusal)
 
--- What came of a command that was handed in: it was decided, or it was refused as it has to be, and
--- nothing changed. That there is no room is known before any memory is taken. The state stays
--- lawful.
+-- The result of a command that was handed in: it was decided; or it was refused as it has to be,
+-- and nothing changed. A lack of room is known before any memory is taken. The state stays lawful.
 pub record Keeps (old : DecisionsState) (command : Command) (result : Result (Unit {0}) Refusal)
     (new : DecisionsState) : Type 0 where
   pub full : has_room old ≡ false → result ≡ Err Backlog

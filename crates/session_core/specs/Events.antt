@@ -1,4 +1,4 @@
--- What an event does: the windows that are due are closed, and then its own is done.
+-- What an event does: it closes the windows that are due, and then does its own work.
 use Rattle.std.specs.Prelude.{◌≡◌, ◌≢◌, ℕ, zero, suc, max, Bool, List, Option, Some, None, Result}
 use Rattle.std.specs.Prelude.{◌^◌, Err, OnErr, OnOk, MatchBool}
 use Rattle.std.specs.List.{list_any}
@@ -16,7 +16,7 @@ use Rattle.session_core.specs.Deciding.{Keeps, verdict_of}
 use Rattle.session_core.specs.Core.{CoreState, with_outcome}
 use Rattle.session_core.specs.declared.turn.Turn.{Turn}
 
--- a command was handed in, and this came of it, which is noted
+-- a command was handed in with this result, which is noted
 pub record Handles (old : CoreState) (command : Command) (result : Result (Unit {0}) Refusal)
     (new : CoreState) : Type 0 where
   pub decisions : DecisionsState
@@ -31,7 +31,7 @@ pub record HandsInOldest (old : CoreState) (result : Result (Unit {0}) Refusal)
   pub oldest : IsOldestDue old.clock old.windows heard rest
   pub handled : Handles old (commands.Heard heard) result new
 
--- and the window was closed, since there was memory
+-- and the window was closed, since memory was available
 pub record ClosesOldest (old new : CoreState) : Type 0 where
   pub result : Result (Unit {0}) Refusal
   pub between : CoreState
@@ -39,12 +39,12 @@ pub record ClosesOldest (old new : CoreState) : Type 0 where
   pub there_was_memory : result ≢ Err OutOfMemory
   pub new_is : new ≡ record between { windows = handed_in.rest }
 
--- n were closed, one after another
+-- n windows were closed, one after another
 abbrev pub Closes : ℕ → CoreState → CoreState → Type 0
 Closes zero old new = new ≡ old
 Closes (suc n) old new = (before : CoreState) × Closes n old before × ClosesOldest before new
 
--- some were closed, and they were counted
+-- some windows were closed and counted
 pub record HasClosed (old new : CoreState) : Type 0 where
   pub last : CoreState
   pub closed : Closes new.closings old last
@@ -54,7 +54,7 @@ pub record HasClosed (old new : CoreState) : Type 0 where
 abbrev pub core_at_moment : CoreState → ℕ → CoreState
 core_at_moment s moment = record s { clock = max s.clock moment; closings = 0 }
 
--- the moment at which the oldest window is due, where there is such a moment
+-- the moment at which the oldest window is due, if there is such a moment
 abbrev pub next_due : CoreState → Option ℕ
 next_due s = due_before (2 ^ 63) s.windows
 
@@ -62,13 +62,14 @@ next_due s = due_before (2 ^ 63) s.windows
 abbrev pub has_due : CoreState → Bool
 has_due s = list_any (is_due s.clock) s.windows
 
--- for a closing there was no memory: the windows that are left stay open, and the event's own isn't
+-- memory ran out for a closing: the remaining windows stay open, and the event's own work isn't
 -- done
 abbrev pub Starves : CoreState → Option Refusal → CoreState → Type 0
 Starves s refused new = (refused ≡ Some OutOfMemory) × (new ≡ s)
 
--- An event: at its moment the windows that are due are closed, in the order of opening, and then
--- its own is done. The turn tells which decisions were made, and why the event's own was refused.
+-- An event: at its moment it closes the windows that are due, in the order of opening, and then
+-- does its own work. The turn says which decisions were made, and why the event's own command was
+-- refused.
 pub record IsTurn (old : CoreState) (moment : ℕ)
     (Own : CoreState → Option Refusal → CoreState → Type 0) (turn : Turn)
     (new : CoreState) : Type 0 where
@@ -79,16 +80,16 @@ pub record IsTurn (old : CoreState) (moment : ℕ)
   pub from : turn.from ≡ old.decisions.made
   pub to : turn.to ≡ new.decisions.made
 
--- of a command: it is handed in
+-- the work of a command: it is handed in
 abbrev pub Asks : Command → CoreState → Option Refusal → CoreState → Type 0
 Asks command s refused new = Handles s command (verdict_of refused) new
 
--- of a moment alone: nothing
+-- the work of a moment alone: nothing
 abbrev pub Ticks : CoreState → Option Refusal → CoreState → Type 0
 Ticks s refused new = (refused ≡ None) × (new ≡ s)
 
--- Of a copy of a frame: where it is on a channel at a data rate that a device may use, a window
--- takes it, or is refused as the windows refuse it.
+-- The work of a copy of a frame: if it is on a channel and at a data rate that a device may use, a
+-- window takes it, or it is refused as the windows refuse it.
 pub record IsHeard (copy : FrameCopy) (old : CoreState) (result : Result (Unit {0}) Refusal)
     (new : CoreState) : Type 0 where
   pub receivable : IsReceivable copy.reception

@@ -1,4 +1,4 @@
--- A turn in whole lists: the commands that were handed in, and what came of each.
+-- A turn in whole lists: the commands that were handed in, and the result of each.
 use Rattle.std.specs.Prelude.{◌≡◌, ◌≢◌, ◌+◌, List, ◌++◌, length, map, take, All, Option}
 use Rattle.std.specs.Prelude.{Some, None}
 use Rattle.std.specs.List.{filter_map}
@@ -34,7 +34,7 @@ abbrev pub decision_in : Handling → Option Decision
 decision_in (Became d) = Some d
 decision_in (WasRefused command refusal) = None
 
--- want of memory is no outcome
+-- out of memory is no outcome
 abbrev pub outcome_in : Handling → Option Outcome
 outcome_in (Became d) = Some (Decided d.seq)
 outcome_in (WasRefused command OutOfMemory) = None
@@ -50,8 +50,8 @@ outcomes_in handed = filter_map outcome_in handed
 abbrev pub frames_in : List Window → List Command
 frames_in windows = map (λ w. commands.Heard (heard_in w)) windows
 
--- The log grew by just the decisions of these commands, which continue what was decided before, and
--- the outcomes are the last 64 of the old ones and theirs.
+-- The log grew by exactly the decisions of these commands, which continue what was decided before.
+-- The outcomes are the last 64 of the old ones and theirs.
 pub record HandlesAll (old : CoreState) (handed : List Handling) (new : CoreState) : Type 0 where
   pub log : new.decisions.log ≡ old.decisions.log ++ decisions_in handed
   pub made : new.decisions.made ≡ old.decisions.made + length (decisions_in handed)
@@ -59,9 +59,9 @@ pub record HandlesAll (old : CoreState) (handed : List Handling) (new : CoreStat
       (decisions_in handed)
   pub outcomes : new.outcomes ≡ keep_last MOST_OUTCOMES (old.outcomes ++ outcomes_in handed)
 
--- What a turn handed in: the frames of the windows that it closed, the first of those that were
--- open, none of which wanted memory; and then the event's own command, if it has one, which was
--- refused as the turn tells. The turn tells the numbers of their decisions.
+-- What a turn handed in. First come the frames of the windows that it closed, which are the first
+-- of the open ones; none of them was refused with OutOfMemory. Then comes the event's own command,
+-- if it has one, refused as the turn says. The turn gives the numbers of their decisions.
 pub record IsWholeTurn (old : CoreState) (own : List Command) (turn : Turn)
     (new : CoreState) : Type 0 where
   pub closed : List Handling

@@ -1,10 +1,10 @@
--- How the decisions of a life are kept.
+-- How the decisions of a life are stored.
 use Rattle.std.specs.Prelude.{◌≡◌}
 use Rattle.sessions.specs.Decision.{without_decisions}
 use Rattle.session_core.specs.State.{DecisionsState, IsLawful, now_of}
 use Rattle.session_core.specs.declared.decisions.Decisions.TheInside.{Inside}
 
--- the table that the taken decisions leave is the one at hand with the others taken back
+-- the table that the taken decisions leave is the table at hand with the untaken ones undone
 abbrev pub kept_state : Inside → DecisionsState
 kept_state c =
     record {

@@ -1,4 +1,4 @@
--- How a core is kept.
+-- How a core is stored.
 use Rattle.std.specs.Prelude.{◌≡◌, ◌≤◌, All}
 use Rattle.session_core.specs.Core.{CoreState}
 use Rattle.session_core.specs.declared.outcome.TheConstants.{MOST_OUTCOMES}

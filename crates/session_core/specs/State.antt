@@ -5,8 +5,8 @@ use Rattle.sessions.specs.Decision.{ContinueAll, with_decisions}
 use Rattle.sessions.specs.declared.decision.Decision.{Decision}
 use Rattle.session_core.specs.declared.decisions.TheConstants.{LAST_NUMBER, MOST_UNTAKEN}
 
--- The table that the taken decisions leave, the number at which this life began, how many decisions
--- were made and taken in it, and those that were made and not taken, the oldest first.
+-- The table that the taken decisions leave; the number at which this life began; the numbers of
+-- decisions made and taken in it; and the decisions made and not taken, the oldest first.
 pub record DecisionsState : Type 0 where
   pub base : TableState
   pub opening : ℕ
@@ -22,7 +22,7 @@ now_of s = with_decisions s.base s.log
 abbrev pub last_number : DecisionsState → ℕ
 last_number s = s.opening + s.made
 
--- the log continues what was taken, none is missing from it, and it has its limits
+-- the log continues what was taken, no decision is missing from it, and it is within its limits
 pub record IsLawful (s : DecisionsState) : Type 0 where
   pub continues : ContinueAll s.base (s.opening + s.taken) s.log
   pub count : s.taken + length s.log ≡ s.made

@@ -4,8 +4,8 @@ ghost use Rattle.std.specs.Prelude.{ℕ};
 use std::marker::{Brand, PhantomData};
 use std::sync::ledger::Ledger;
 
-/// Names the two ledgers of a life, and says among how many seats the first is shared. Only proofs
-/// read it: a ledger's name comes in from whoever begins the life.
+/// Names the two ledgers of a life, and says how many seats share the first one. It exists for
+/// proofs only: the caller that begins the life provides the ledgers' names.
 pub trait Books {
     /// The name of the ledger of decisions made.
     ghost made_name: { ℕ };
@@ -25,7 +25,7 @@ impl Books for Brand {
     ghost taken_name = { 0 };
 }
 
-/// The ledger of the decisions that were made: a part for each seat.
+/// The ledger of the decisions that were made, with one part for each seat.
 pub struct Made<B: Books> {
     of: PhantomData<B>,
 }
@@ -36,7 +36,7 @@ impl<B: Books> Ledger for Made<B> {
     ghost parts = { B.made_parts };
 }
 
-/// The ledger of the decisions that were taken: one part.
+/// The ledger of the decisions that were taken, with one part.
 pub struct Taken<B: Books> {
     of: PhantomData<B>,
 }

@@ -1,4 +1,4 @@
-// What events are made of: windows are closed, and commands and copies are handed in.
+// The parts of an event: closing windows, and handing in commands and copies.
 ghost use Rattle.std.specs.Prelude.{◌≡◌, ◌≢◌, ◌∷◌, ◌+◌, ℕ, List, true, false, length, max, Err};
 ghost use Rattle.std.specs.Prelude.{Some, MatchBool, MatchResult, IfOk};
 ghost use Rattle.std.specs.Option.{MatchOption};
@@ -14,8 +14,8 @@ use lw_types::{FrameCopy, PhyPayload, Refusal};
 use std::alloc::AllocError;
 
 impl Core {
-    /// Moves the effective time and closes the windows that are due. Where there is no memory for
-    /// one of them, it and those behind it stay open.
+    /// Moves the effective time and closes the windows that are due. If memory runs out for one of
+    /// them, it and those after it stay open.
     pub(crate) fn begin(&mut self, moment: Moment) -> Result<(), Refusal>
         ensures closed { HasClosed (core_at_moment self.old moment) self.new }
         ensures due { MatchResult result
@@ -45,7 +45,7 @@ impl Core {
         Ok(())
     }
 
-    // Closes the oldest window if it is due, and says whether it was.
+    // Closes the oldest window if it is due, and returns whether it was.
     fn close_oldest(&mut self) -> Result<bool, Refusal>
         ensures { MatchResult result
             (λ done. MatchBool done (ClosesOldest self.old self.new)
@@ -63,8 +63,9 @@ impl Core {
         Ok(true)
     }
 
-    // Hands the frame of the oldest window in, if that is due. Where there is no memory for a copy
-    // of it, it is answered its refusal, if one is due.
+    // Hands in the frame of the oldest window, and returns the answer; `None` if the window isn't
+    // due. If memory for a copy of the frame runs out, the answer is the refusal that the frame
+    // would get anyway, or else `OutOfMemory`, which may also replace a refusal of the join server.
     fn hand_in_oldest(&mut self) -> Option<Result<(), Refusal>>
         ensures { MatchOption result
             ((self.new ≡ self.old) × (has_due self.old ≡ false))
@@ -83,7 +84,7 @@ impl Core {
         }
     }
 
-    /// Hands a command in to be decided, and notes what comes of it.
+    /// Hands in a command to be decided, and notes its outcome.
     pub(crate) fn hand_in(&mut self, command: Command) -> Result<(), Refusal>
         ensures { Handles self.old command result self.new }
     {
@@ -91,7 +92,7 @@ impl Core {
         self.noted(answer)
     }
 
-    /// Notes the refusal of a command for which there is no memory.
+    /// Notes the refusal of a command for which memory ran out.
     pub(crate) fn pass_over(&mut self, command: &Command) -> Refusal
         ensures { Handles self.old command.now (Err result) self.new }
     {
@@ -100,7 +101,7 @@ impl Core {
         refusal
     }
 
-    /// A copy of a frame joins its window, or opens one.
+    /// Puts a copy of a frame into its window, or opens one.
     pub(crate) fn listen(&mut self, copy: FrameCopy) -> Result<(), Refusal>
         requires { has_due self.old ≡ false }
         ensures { IsHeard copy self.old result self.new }
@@ -111,7 +112,7 @@ impl Core {
         self.windows.add(self.clock.get(), copy)
     }
 
-    // Keeps what came of a command with the last outcomes, and gives it back.
+    // Stores the outcome of a command among the last outcomes, and returns its answer.
     fn noted(&mut self, answer: Result<(), Refusal>) -> Result<(), Refusal>
         ensures same { result ≡ answer }
         ensures noted { self.new ≡ with_outcome self.old self.old.decisions answer }
@@ -133,14 +134,14 @@ fn later(a: Moment, b: Moment) -> Moment
     if a.get() < b.get() { b } else { a }
 }
 
-// Whether there was no memory for a command.
+// Whether memory ran out for a command.
 fn is_starved(answer: &Result<(), Refusal>) -> bool
     ensures { MatchBool result (answer.now ≡ Err OutOfMemory) (answer.now ≢ Err OutOfMemory) }
 {
     matches!(answer, Err(Refusal::OutOfMemory))
 }
 
-// A frame with its copies, in memory of its own.
+// A frame with its copies, in newly allocated memory.
 fn heard_of(phy_payload: &PhyPayload, hearings: &Hearings) -> Result<Heard, AllocError>
     ensures { IfOk result (λ heard. (heard.phy_payload ≡ phy_payload.now)
         × (heard.hearings ≡ hearings.now)) }

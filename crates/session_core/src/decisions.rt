@@ -21,13 +21,14 @@ pub const MOST_UNTAKEN: u64 = 4096;
 /// The greatest sequence number that a decision gets, 2^63 - 1.
 pub const LAST_NUMBER: u64 = (1 << 63) - 1;
 
-/// The decisions of one life. Their state is lawful whenever it can be seen: the untaken decisions
-/// continue what was taken, none is missing, and the table at hand is the one that they leave.
+/// The decisions of one life. Their state is lawful whenever other code can see it: the untaken
+/// decisions continue what was taken, none is missing, and the table at hand is the one that they
+/// leave.
 #[derive(Drop)]
 pub(crate) struct Decisions {
     alloc: Global,
-    // The table after every decision made. The one that they began at is this with the log taken
-    // back, which no call needs.
+    // The table after every decision made. The table at which they began is this one with the log
+    // undone; no call needs it.
     table: Table,
     opening: u64,
     made: u64,
@@ -48,7 +49,7 @@ impl Model for Decisions {
 }
 
 impl Decisions {
-    /// None yet, over a copy of this table, whose last decision has the number `seq`.
+    /// No decisions yet, over a copy of this table, whose last decision has the number `seq`.
     pub(crate) fn new(alloc: Global, table: &Table, seq: u64) -> Result<Self, Refusal>
         ensures { MatchResult result (λ decisions. decisions ≡ new_decisions table.now seq)
             (λ e. e ≡ OutOfMemory) }
@@ -79,7 +80,7 @@ impl Decisions {
         self.opening + self.made
     }
 
-    /// How many decisions were made in this life.
+    /// The number of decisions made in this life.
     pub(crate) fn made(&self) -> u64
         ensures count { result ≡ self.now.made }
         ensures lawful { IsLawful self.now }
@@ -87,7 +88,7 @@ impl Decisions {
         self.made
     }
 
-    /// How many decisions wait to be taken.
+    /// The number of decisions that wait to be taken.
     pub(crate) fn untaken(&self) -> usize
         ensures count { result ≡ length self.now.log }
         ensures lawful { IsLawful self.now }
@@ -95,7 +96,7 @@ impl Decisions {
         self.log.len()
     }
 
-    /// Whether there is room for one decision more that waits, and a number for it.
+    /// Whether there is room for one more waiting decision, and a number for it.
     pub(crate) fn has_room(&self) -> bool
         ensures room { result ≡ has_room self.now }
         ensures lawful { IsLawful self.now }
@@ -103,8 +104,8 @@ impl Decisions {
         (self.log.len() as u64) < MOST_UNTAKEN && self.seq() < LAST_NUMBER
     }
 
-    /// Decides a command on the table as it is now, and keeps the decision. Refused with `Backlog`
-    /// where there is no room, and then as [`Table::decide`] refuses it.
+    /// Decides a command on the table as it is now, and stores the decision. Refused with `Backlog`
+    /// if there is no room, and then as [`Table::decide`] refuses it.
     pub(crate) fn keep(&mut self, command: Command) -> Result<(), Refusal>
         ensures full { has_room self.old ≡ false → result ≡ Err Backlog }
         ensures made { AnswersTo command (step_if_room self.old command)
@@ -125,7 +126,8 @@ impl Decisions {
         Ok(())
     }
 
-    /// What a command is refused where there is no memory for it.
+    /// The refusal of a command for which memory ran out: the one that it would get anyway, or else
+    /// `OutOfMemory`, which may also replace a refusal of the join server.
     pub(crate) fn lack(&self, command: &Command) -> Refusal
         ensures full { has_room self.now ≡ false → result ≡ Backlog }
         ensures lack { IsWithoutMemory self.now command.now result }
@@ -140,7 +142,9 @@ impl Decisions {
         }
     }
 
-    /// What a frame is refused that was heard so, where there is no memory to hand it in.
+    /// The refusal of a frame with these copies, when memory to hand it in ran out: the one that it
+    /// would get anyway, or else `OutOfMemory`, which may also replace a refusal of the join
+    /// server.
     pub(crate) fn lack_heard(&self, phy_payload: &PhyPayload, hearings: &Hearings) -> Refusal
         ensures full { has_room self.now ≡ false → result ≡ Backlog }
         ensures lack { IsWithoutMemory self.now
@@ -159,7 +163,7 @@ impl Decisions {
         }
     }
 
-    /// Takes the oldest untaken decisions, at most `max` of them. After an `Err`, which is want of
+    /// Takes the oldest untaken decisions, at most `max` of them. After an `Err`, which is out of
     /// memory, nothing has changed.
     pub(crate) fn take(&mut self, max: Most) -> Result<Batch, Refusal>
         ensures asked { 1 ≤ max }

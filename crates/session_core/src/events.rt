@@ -1,4 +1,4 @@
-// The core, and what comes to it.
+// The core, and the events that come to it.
 ghost use Rattle.std.specs.Prelude.{◌≡◌, ◌≤◌, IsSome, MatchResult, take, length};
 ghost use Rattle.lw_types.specs.declared.refusal.Refusal.TheVariants.{OutOfMemory};
 ghost use Rattle.devices.specs.declared.command.Command.TheVariants as commands;
@@ -19,8 +19,8 @@ use std::alloc::Global;
 use std::marker::Model;
 
 /// What decides in one life of a network server: the decisions, and the windows in which the copies
-/// of a frame are gathered. Each event moves the effective time, closes the windows that are due,
-/// in the order of opening, and then does its own.
+/// of a frame are gathered. Each event first moves the effective time, then closes the windows that
+/// are due, in the order of opening, and then does its own work.
 pub struct Core {
     pub(crate) alloc: Global,
     pub(crate) decisions: Decisions,
@@ -31,7 +31,7 @@ pub struct Core {
     pub(crate) observed: Observed,
 }
 
-// By hand, so that its proof is done once: a derived drop is proved anew wherever a value goes.
+// By hand, so that it is proved once: a derived drop is proved again at each use of the type.
 impl Drop for Core {
     fn drop(self) {
         let Self {
@@ -92,7 +92,7 @@ impl Core {
         self.decisions.seq()
     }
 
-    /// How many decisions were made in this life.
+    /// The number of decisions made in this life.
     pub fn made(&self) -> u64
         ensures count { result ≡ self.now.decisions.made }
         ensures lawful { IsLawfulCore self.now }
@@ -100,7 +100,7 @@ impl Core {
         self.decisions.made()
     }
 
-    /// How many decisions wait to be taken.
+    /// The number of decisions that wait to be taken.
     pub fn untaken(&self) -> usize
         ensures count { result ≡ length self.now.decisions.log }
         ensures lawful { IsLawfulCore self.now }
@@ -108,31 +108,32 @@ impl Core {
         self.decisions.untaken()
     }
 
-    /// How many windows the last event closed. Those that were refused, and so made no decision,
-    /// count too.
+    /// The number of windows that the last event closed. Windows whose frames were refused, so that
+    /// no decision was made, count too.
     pub fn closings(&self) -> usize
         ensures { result ≡ self.now.closings }
     {
         self.closings
     }
 
-    /// How many windows are open.
+    /// The number of open windows.
     pub fn windows(&self) -> usize
         ensures { result ≡ length self.now.windows }
     {
         self.windows.len()
     }
 
-    /// From here on the frames whose windows are closed are kept, until they are taken: at most
-    /// 1,024 of them, as many as one event may close.
+    /// From now on the frames whose windows are closed are kept until they are taken. At most 1,024
+    /// are kept, the most that one event can close.
     pub fn observe(&mut self)
         ensures { self.new ≡ self.old }
     {
         self.observed.begin();
     }
 
-    /// Gives the frames that were kept, the oldest first. None of them where nobody observes, and
-    /// without those that there was no memory for. What they are is in no contract.
+    /// Returns the frames that were kept, the oldest first. Before `observe` was called there are
+    /// none, and frames for which memory ran out are missing. No contract says which frames they
+    /// are.
     pub fn take_closed(&mut self) -> Vec<ClosedFrame>
         ensures { self.new ≡ self.old }
     {
@@ -148,17 +149,17 @@ impl Core {
     }
 
     /// The moment at which the oldest window is due: an event at this moment or later closes it,
-    /// and an earlier one closes none. `None` where no window is open, and where the oldest is
-    /// never due, since no moment is so late.
+    /// and an earlier event closes none. `None` if no window is open, or if the oldest is never
+    /// due, since no moment is so late.
     pub fn next_due(&self) -> Option<Moment>
         ensures { result ≡ next_due self.now }
     {
         Moment::new(self.windows.next_due()?)
     }
 
-    /// What came of the last commands that were handed in to be decided, at most 64, the oldest
-    /// first. A command that was refused for want of memory has no outcome. It is for whoever looks
-    /// at a core, as tests do: what a command's own caller has to know is in its [`Turn`].
+    /// The outcomes of the last commands that were handed in to be decided, at most 64, the oldest
+    /// first. A command that was refused with `OutOfMemory` has no outcome. This is for inspection,
+    /// for example by tests: a command's own caller finds the answer in its [`Turn`].
     pub fn outcomes(&self) -> &HeapCircularBuffer<Outcome>
         ensures outcomes { result.now.items ≡ self.now.outcomes }
         ensures few { length self.now.outcomes ≤ MOST_OUTCOMES }
@@ -167,8 +168,8 @@ impl Core {
         &self.outcomes
     }
 
-    /// A gateway heard a frame. Refused with `UnknownChannel` where that wasn't on a channel at a
-    /// data rate from 0 to 5, and then as [`Windows::add`] refuses the copy.
+    /// A gateway heard a frame. Refused with `UnknownChannel` if that wasn't on a channel at a data
+    /// rate from 0 to 5, and then as [`Windows::add`] refuses the copy.
     pub fn hear(&mut self, moment: Moment, copy: FrameCopy) -> Turn
         ensures turn { IsTurn self.old moment (Hears copy) result self.new }
         ensures lawful { IsLawfulCore self.old }
@@ -218,8 +219,9 @@ impl Core {
         self.decide(moment, Command::QueueMac(queueing))
     }
 
-    /// A command comes. Refused with `Backlog` where 4,096 decisions wait or no number is left,
-    /// whether or not there is memory, and then as [`Table::decide`] refuses it.
+    /// A command comes. Refused with `Backlog` if 4,096 decisions wait or no number is left, and
+    /// then as [`Table::decide`] refuses it. `OutOfMemory` may replace any of these if a due window
+    /// couldn't be closed.
     pub fn decide(&mut self, moment: Moment, command: Command) -> Turn
         ensures turn { IsTurn self.old moment (Asks command) result self.new }
         ensures lawful { IsLawfulCore self.old }
@@ -233,8 +235,9 @@ impl Core {
         Turn { from, to, refused }
     }
 
-    /// A command comes that can't be handed in for want of memory: it is answered its refusal, if
-    /// one is due, else `OutOfMemory`.
+    /// A command comes, but memory to hand it in ran out. It gets the refusal that it would get
+    /// anyway, or else `OutOfMemory`. `OutOfMemory` may also replace a refusal of the join server,
+    /// or any refusal if a due window couldn't be closed.
     pub fn decide_without_memory(&mut self, moment: Moment, command: &Command) -> Turn
         ensures turn { IsTurn self.old moment (Asks command.now) result self.new }
         ensures refused { IsSome result.refused }
@@ -253,7 +256,7 @@ impl Core {
         }
     }
 
-    /// An event comes that can't be done for want of memory: it is refused with `OutOfMemory`.
+    /// An event comes, but memory for it ran out: it is refused with `OutOfMemory`.
     pub fn hear_without_memory(&mut self, moment: Moment) -> Turn
         ensures turn { IsTurn self.old moment Starves result self.new }
         ensures lawful { IsLawfulCore self.old }
@@ -268,8 +271,8 @@ impl Core {
         }
     }
 
-    /// Takes the oldest untaken decisions, at most `max` of them. After an `Err`, which is want of
-    /// memory, the core is as before. Its cost doesn't grow with the number of devices.
+    /// Takes the oldest untaken decisions, at most `max` of them. After an `Err`, which is out of
+    /// memory, the core is unchanged. Its cost doesn't grow with the number of devices.
     pub fn take(&mut self, max: Most) -> Result<Batch, Refusal>
         ensures asked { 1 ≤ max }
         ensures taken { MatchResult result

@@ -1,4 +1,4 @@
-//! Laws of this crate's types. Nothing here is of use but its contracts.
+//! Laws of this crate's types. Each is the contract of a function that does nothing else.
 ghost use Rattle.std.specs.Prelude.{◌≡◌, ◌≤◌, ◌<◌, ◌^◌, ◌+◌, ℕ, List, [], ◌∷◌, SomeIff, length};
 ghost use Rattle.lw_types.specs.declared.frame_copy.FrameCopy.{FrameCopy};
 ghost use Rattle.devices.specs.declared.command.Command.{Command};
@@ -27,9 +27,9 @@ pub fn moment_of(milliseconds: u64) -> Option<Moment>
     Moment::new(milliseconds)
 }
 
-/// The windows of a core stand for the groups of the copies that it accepted in its life, of which
-/// the first `closed` are closed: an event closes the next of them that are due, and a copy that is
-/// accepted goes into its group.
+/// The windows of a core represent the groups of the copies that it accepted in its life; the first
+/// `closed` of these groups are closed. An event closes the next groups that are due, and an
+/// accepted copy goes into its group.
 pub fn windows_stand_for_groups()
     ensures at_first { (table : TableState) (seq : ℕ)
         → StandFor (new_core table seq).windows [] 0 (new_core table seq).clock }
@@ -59,8 +59,8 @@ pub fn windows_stand_for_groups()
     dedup::laws::a_copy_goes_into_its_group();
 }
 
-/// How many decisions wait untaken at most, the number after which none is made, how many outcomes
-/// are kept, and the last moment.
+/// The most decisions that wait untaken, the number after which none is made, the number of
+/// outcomes that are kept, and the last moment.
 pub fn limits_are_these()
     ensures untaken { MOST_UNTAKEN ≡ 4096 }
     ensures number { LAST_NUMBER + 1 ≡ 2 ^ 63 }
@@ -68,10 +68,10 @@ pub fn limits_are_these()
     ensures moment { LAST_MOMENT + 1 ≡ 2 ^ 63 }
 {}
 
-/// A turn in whole lists: the log grew by just the decisions of the commands that were handed in,
-/// which are the frames of the windows that the event closed and then its own command, and the
-/// outcomes are the last of the old ones and theirs. The core is lawful before, and has as many
-/// outcomes as are kept at most.
+/// A turn in whole lists. The commands that were handed in are the frames of the windows that the
+/// event closed, and then its own command. The log grew by exactly their decisions, and the
+/// outcomes are the last of the old ones and theirs. The law asks that the core was lawful before,
+/// with at most as many outcomes as are kept.
 pub fn turns_hand_in_commands()
     ensures asked { (command : Command) (old new : CoreState) (moment : ℕ) (turn : Turn) →
         IsTurn old moment (Asks command) turn new → IsLawfulCore old

@@ -1,6 +1,7 @@
-//! What decides in one life: the windows in which the copies of a frame are gathered, the decisions
-//! that were made and not yet taken, the table that they leave, and what came of the last commands.
-//! [`Shared`] is a core that threads share, and [`Sessions`] its calls, each under its lock.
+//! The core: what decides in one life. It has the windows in which the copies of a frame are
+//! gathered, and the decisions that were made and not yet taken. It also has the table that they
+//! leave, and the outcomes of the last commands. [`Shared`] is a core that threads share;
+//! [`Sessions`] has its calls, each under its lock.
 #![tactic(auto)]
 
 mod books;

@@ -11,18 +11,19 @@ use sessions::Batch;
 use std::alloc::Global;
 use std::sync::{Mutex, Wait};
 
-/// The calls of [`Shared`], each under the lock for as long as that call alone. A server's flusher
-/// takes by them, and its closer asks for moments. What is handed in to a server goes to [`Shared`]
-/// itself, by a worker or the closer that holds the lock, since the frames whose windows the call
-/// closed are fetched before it is let go ([`Shared::take_closed`]). The other calls are for
-/// whoever leaves these frames alone, as tests.
+/// The calls of [`Shared`]; each locks it for the duration of that call alone. A server's flusher
+/// uses these calls to take decisions, and its closer to ask for moments. What is handed in to a
+/// server goes to [`Shared`] itself, by a worker or the closer that holds the lock: the frames
+/// whose windows the call closed have to be fetched before the lock is released
+/// ([`Shared::take_closed`]). The other calls are for callers that don't need these frames, for
+/// example tests.
 ///
-/// What is known across threads is what a caller's own share says. A seat's grew by just what the
-/// call made, and the seat's last call is this one: of this kind, at this moment, with the refusal
-/// that is answered. Which frame or command was handed in isn't said. A call that waits for the
-/// lock need not return.
+/// Across threads, a caller knows what its own share says. Its seat's share grew by exactly what
+/// the call made, and the seat's last call is this one: of this kind, at this moment, with the
+/// refusal that is returned. The contracts don't say which frame or command was handed in. A call
+/// that waits for the lock need not return.
 pub trait Sessions<B: Books> {
-    /// How many decisions were made in this life, for whoever looks at a core, as tests do.
+    /// The number of decisions made in this life; for inspection, for example by tests.
     fn made<R: Wait>(&self, rt: &R) -> u64;
 
     /// A gateway heard a frame.
@@ -43,8 +44,8 @@ pub trait Sessions<B: Books> {
     ) -> Turn
         ensures share { HasMade seat.old seat.new moment Asked result };
 
-    /// An application provisions a device. This call, and those that queue, are for whoever has one
-    /// command.
+    /// An application provisions a device. This call, and those that queue, are for callers that
+    /// have a single command.
     fn provision<R: Wait>(
         &self,
         rt: &R,
@@ -75,8 +76,8 @@ pub trait Sessions<B: Books> {
             (λ e. (e ≡ OutOfMemory) × (taker.new ≡ taker.old)) }
         ensures few { IfOk result (λ batch. length batch ≤ max) };
 
-    /// What came of the last commands that were handed in to be decided, for whoever looks at a
-    /// core, as tests do.
+    /// The outcomes of the last commands that were handed in to be decided; for inspection, for
+    /// example by tests.
     fn outcomes<R: Wait>(&self, rt: &R, alloc: Global) -> Result<Vec<Outcome>, Refusal>
         ensures refused { IfErr result (λ e. e ≡ OutOfMemory) };
 

@@ -1,4 +1,4 @@
-// What a core tells whoever watches it. No decision depends on it, and no clause speaks of it.
+// What a core keeps for observers. No decision depends on it, and no clause speaks of it.
 use dedup::MOST_WINDOWS;
 use devices::Heard;
 use lw_types::Refusal;
@@ -9,18 +9,18 @@ use std::mem;
 #[derive(Drop)]
 pub struct ClosedFrame {
     pub heard: Heard,
-    /// Why it was not decided, if it was not.
+    /// Why it wasn't decided, if it wasn't.
     pub refused: Option<Refusal>,
 }
 
-/// The frames whose windows were closed since somebody looked, while somebody does.
+/// The frames whose windows were closed since the last `take`, while somebody observes.
 pub(crate) struct Observed {
     alloc: Global,
     is_kept: bool,
     frames: Vec<ClosedFrame>,
 }
 
-// By hand, so that its proof is done once: a derived drop is proved anew wherever a value goes.
+// By hand, so that it is proved once: a derived drop is proved again at each use of the type.
 impl Drop for Observed {
     fn drop(self) {
         let Self {
@@ -32,7 +32,7 @@ impl Drop for Observed {
 }
 
 impl Observed {
-    /// Nobody looks. Takes no memory.
+    /// Nobody observes yet. Takes no memory.
     pub(crate) fn new(alloc: Global) -> Self {
         Observed {
             alloc,
@@ -41,13 +41,13 @@ impl Observed {
         }
     }
 
-    /// From here on frames are kept.
+    /// From now on frames are kept.
     pub(crate) fn begin(&mut self) {
         self.is_kept = true;
     }
 
-    /// A window was closed. Where its frame can't be kept for want of memory, or as many are kept
-    /// as there are windows, nobody sees it.
+    /// A window was closed. If memory for its frame runs out, or as many frames are kept as there
+    /// can be windows, the frame isn't kept.
     pub(crate) fn add(&mut self, heard: Option<Heard>, refused: Option<Refusal>) {
         if !self.is_kept || self.frames.len() >= MOST_WINDOWS {
             return;
@@ -57,7 +57,7 @@ impl Observed {
         }
     }
 
-    /// Gives the frames, the oldest first.
+    /// Returns the frames, the oldest first.
     pub(crate) fn take(&mut self) -> Vec<ClosedFrame> {
         mem::replace(&mut self.frames, Vec::new(self.alloc))
     }

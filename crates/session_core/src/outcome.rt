@@ -1,10 +1,10 @@
-// What came of a command.
+// The outcome of a command.
 use lw_types::Refusal;
 
-/// How many outcomes are kept, those of the last commands.
+/// The number of outcomes that are kept: those of the last commands.
 pub const MOST_OUTCOMES: usize = 64;
 
-/// What came of a command that was handed in to be decided.
+/// The outcome of a command that was handed in to be decided.
 #[derive(Clone, Copy, PartialEq, Eq)]
 pub enum Outcome {
     /// It was decided, under this sequence number.

@@ -1,21 +1,21 @@
-// The shares that threads have of what a core made and gave.
+// The shares that threads have in what a core made and gave.
 use crate::{Books, Made, Moment, Taken};
 use lw_types::Refusal;
 use std::marker::Model;
 use std::sync::ledger::Share;
 
-/// What a call hands in.
+/// What a call handed in.
 #[derive(Clone, Copy, PartialEq, Eq)]
 pub enum CallKind {
     /// A gateway's copy of a frame.
     Heard,
-    /// A moment alone.
+    /// Only a moment.
     Ticked,
     /// An application's command.
     Asked,
 }
 
-/// What was handed in by a call, at which moment, and why it was refused, if it was.
+/// What a call handed in, at which moment, and why it was refused, if it was.
 #[derive(Clone, Copy, PartialEq, Eq)]
 pub struct LastCall {
     pub moment: Moment,
@@ -23,9 +23,9 @@ pub struct LastCall {
     pub refused: Option<Refusal>,
 }
 
-/// A worker's share of the decisions that were made. In contracts it is how many were made through
-/// it, and the last call: what a lock hides of a call, its caller's seat tells, since nobody else
-/// has that seat.
+/// A worker's share of the decisions that were made. In contracts it is the number of decisions
+/// made through it, and the last call. The lock hides other threads' calls, but this seat belongs
+/// to its caller alone, so it says what the caller's own call did.
 #[derive(Drop)]
 pub struct Seat<B: Books> {
     pub(crate) share: Share<Made<B>>,
@@ -59,14 +59,14 @@ impl<B: Books> Seat<B> {
         }
     }
 
-    /// How many decisions were made through this seat.
+    /// The number of decisions made through this seat.
     pub fn share(&self) -> u64
         ensures { result ≡ self.now.made }
     {
         self.count
     }
 
-    /// The last call through this seat, for whoever looks at one, as tests do.
+    /// The last call through this seat; for inspection, for example by tests.
     pub fn last(&self) -> Option<LastCall>
         ensures { result ≡ self.now.last }
     {
@@ -102,7 +102,7 @@ impl<B: Books> Taker<B> {
         Taker { share, count: 0 }
     }
 
-    /// How many decisions were taken.
+    /// The number of decisions taken.
     pub fn share(&self) -> u64
         ensures { result ≡ self.now }
     {

@@ -1,4 +1,4 @@
-// A core that several threads share, with the books of what each of them made and took.
+// A core that several threads share, with the books of what each thread made and took.
 ghost use Rattle.std.specs.Prelude.{◌≡◌, ◌+◌, ◌≤◌, ◌<◌, ◌^◌, ◌↔◌, length, take, IfSome};
 ghost use Rattle.std.specs.Prelude.{IsSome, IsTrue, MatchResult};
 ghost use Rattle.lw_types.specs.declared.refusal.Refusal.TheVariants.{OutOfMemory};
@@ -19,14 +19,15 @@ use sessions::Batch;
 use std::alloc::Global;
 use std::sync::ledger::{Blank, Book, Share};
 
-/// A core beside two books: how many decisions were made, which is the sum of the seats' shares,
-/// and how many were taken, which is the taker's share. Each call costs as that of the core does.
+/// A core with two books: the number of decisions made, which is the sum of the seats' shares, and
+/// the number of decisions taken, which is the taker's share. Each call costs as much as that of
+/// the core.
 #[derive(Drop)]
 pub struct Shared<B: Books> {
     core: Core,
     made: Book<Made<B>>,
     taken: Book<Taken<B>>,
-    // The parts of the seats that aren't given, and how many these are.
+    // The parts of the seats that weren't given yet, and their number.
     spare: Share<Made<B>>,
     left: u64,
     ghost made_is: { core.decisions.made ≡ made.total },
@@ -36,8 +37,8 @@ pub struct Shared<B: Books> {
 }
 
 impl<B: Books> Shared<B> {
-    /// A core that has made no decision yet and given none, with so many seats to give, and the
-    /// share of whoever takes. The blanks are those of the two ledgers. Takes no memory.
+    /// A core that has made and given no decision yet, with this number of seats to give, and the
+    /// share of the taker. The blanks are those of the two ledgers. Takes no memory.
     pub fn new(core: Core, seats: u64, made: Blank, taken: Blank) -> (Self, Taker<B>)
         requires none_made { core.decisions.made ≡ 0 }
         requires none_taken { core.decisions.taken ≡ 0 }
@@ -72,21 +73,21 @@ impl<B: Books> Shared<B> {
         Seat::new(share)
     }
 
-    /// How many decisions were made in this life, for whoever looks at a core, as tests do.
+    /// The number of decisions made in this life; for inspection, for example by tests.
     pub fn made(&self) -> u64
         ensures { result ≡ self.now.core.decisions.made }
     {
         self.core.made()
     }
 
-    /// The core, to be looked at.
+    /// The core, for inspection.
     pub fn core(&self) -> &Core
         ensures { result.now ≡ self.now.core }
     {
         &self.core
     }
 
-    /// From here on the frames whose windows are closed are kept ([`Core::observe`]).
+    /// From now on the frames whose windows are closed are kept ([`Core::observe`]).
     pub fn observe(&mut self)
         ensures core { self.new.core ≡ self.old.core }
         ensures left { self.new.left ≡ self.old.left }
@@ -94,7 +95,7 @@ impl<B: Books> Shared<B> {
         self.core.observe();
     }
 
-    /// Gives the frames that were kept ([`Core::take_closed`]).
+    /// Returns the frames that were kept ([`Core::take_closed`]).
     pub fn take_closed(&mut self) -> Vec<ClosedFrame>
         ensures core { self.new.core ≡ self.old.core }
         ensures left { self.new.left ≡ self.old.left }
@@ -125,7 +126,8 @@ impl<B: Books> Shared<B> {
     }
 
     /// An application provisions a device ([`Core::provision`]). The server calls [`Shared::ask`];
-    /// this call, and those that queue, are for whoever has one command, as tests.
+    /// this call, and those that queue, are for callers that have a single command, for example
+    /// tests.
     pub fn provision(&mut self, seat: &mut Seat<B>, moment: Moment, value: Provisioning) -> Turn
         ensures turn { IsTurn self.old.core moment
             (Asks (commands.Provision value)) result self.new.core }
@@ -168,7 +170,7 @@ impl<B: Books> Shared<B> {
     }
 
     /// Takes the oldest untaken decisions, at most `max` of them ([`Core::take`]). After an `Err`,
-    /// which is want of memory, nothing has changed. What was taken before is the taker's share.
+    /// which is out of memory, nothing has changed. The number taken before is the taker's share.
     pub fn take(&mut self, taker: &mut Taker<B>, max: Most) -> Result<Batch, Refusal>
         ensures before { self.old.core.decisions.taken ≡ taker.old }
         ensures taken { MatchResult result
@@ -187,8 +189,8 @@ impl<B: Books> Shared<B> {
         Ok(batch)
     }
 
-    /// What came of the last commands that were handed in to be decided ([`Core::outcomes`]), for
-    /// whoever looks at a core, as tests do. Refused with `OutOfMemory` for want of memory.
+    /// The outcomes of the last commands that were handed in to be decided ([`Core::outcomes`]);
+    /// for inspection, for example by tests. Refused with `OutOfMemory` if memory runs out.
     pub fn outcomes(&self, alloc: Global) -> Result<Vec<Outcome>, Refusal>
         ensures { MatchResult result (λ outcomes. outcomes.items ≡ self.now.core.outcomes)
             (λ e. e ≡ OutOfMemory) }
@@ -212,9 +214,9 @@ impl<B: Books> Shared<B> {
 }
 
 impl<B: Books> Shared<B> {
-    /// Ends the sharing, once the seats come back: how many decisions were made, which is what the
-    /// seats made together. `None` where one of `all` seats is missing, since its share is lost
-    /// with it. Takes no memory.
+    /// Ends the sharing after the seats came back. Returns the number of decisions made, which is
+    /// what the seats made together. `None` if one of `all` seats is missing, since its share is
+    /// lost with it. Takes no memory.
     pub fn settle(self, all: u64, seats: Vec<Seat<B>>) -> Option<u64>
         requires { all ≡ B.made_parts }
         ensures made { IfSome result
@@ -237,7 +239,7 @@ impl<B: Books> Shared<B> {
     }
 }
 
-// Joins the shares of seats to those that weren't given: whether these are all there are.
+// Joins the shares of seats to those that weren't given, and returns whether these are all shares.
 fn gather_shares<B: Books>(
     spare: &mut Share<Made<B>>,
     left: u64,
@@ -261,7 +263,7 @@ fn gather_shares<B: Books>(
     left.checked_add(count) == Some(all)
 }
 
-// Counts the decisions of a turn, and keeps the call as the seat's last one.
+// Counts the decisions of a turn, and stores the call as the seat's last one.
 fn count<B: Books>(
     made: &mut Book<Made<B>>,
     seat: &mut Seat<B>,

@@ -41,7 +41,7 @@ use Rattle.sessions.proofs.Uplinks.{uplink-fits}
 abbrev Follows : Device → DeviceStep → Type 0
 Follows d o = MayBecome d o.device
 
--- whatever else becomes of a record that keeps what its device was provisioned with
+-- any other change of a record that keeps what its device was provisioned with
 kept : (d : Device) (dev_nonce : Option ℕ) (activation : Grants) (awaited : Option Tag) (mac_queue : List ℕ) (items : List Item) → AreItemsAfter d.items items
     → MayBecome d (record d { last_dev_nonce = dev_nonce; activation = activation; awaited = awaited; mac_queue = mac_queue; items = items })
 kept d dev_nonce activation awaited mac_queue items after = record {
@@ -75,7 +75,7 @@ queue_mac-follows d q o is =
 
 -- ---- a device is answered
 
--- the record is the same but for what no provisioning brings and no item
+-- the record keeps what it was provisioned with, its items and its count
 same_but : (d : Device) → MayBecome d d
 same_but d = kept d _ _ _ _ _ (inl refl)
 
@@ -103,7 +103,7 @@ acknowledgement-follows net_id slot d c best =
     sent-follows d (c.next_down == 2 ^ 32) _ _
     (kept d _ _ _ _ _ (inl refl))
 
--- no answer is counted
+-- an answer doesn't change the count
 sent-heard : (d : Device) (spent : Bool) (effects : List Effect) (sent : DeviceStep) → sent.device.heard ≡ d.heard → (cond spent (device_step d effects) sent).device.heard ≡ d.heard
 sent-heard d true effects sent same = refl
 sent-heard d false effects sent same = same

@@ -1,4 +1,4 @@
--- What a record that is placed in a table does to the marks that the table covers.
+-- How placing a record in a table changes the marks that the table covers.
 use Rattle.std.proofs.Common.{◌≡◌, ◌≢◌, ◌⊎◌, inl, inr, ◌+◌, ◌≤◌, ◌∙◌, ℕ, false, cond, nat_eq, List, [], length, get_or, Some, None, arith, ap, subst, sym}
 use Rattle.std.proofs.lemmas.Bool.{eqb-false, eqb-true, ne_eqb}
 use Rattle.std.proofs.lemmas.Option.{get_or_from_slice_get, none-some, same_Some, slice_get-get_or, slice_get_within}
@@ -19,7 +19,7 @@ use Rattle.sessions.proofs.Slots.{own_names-pushed, own_names-replaced, place-pu
 abbrev name : Device → ℕ
 name d = d.dev_eui.0
 
--- what holds of a record and of each device before holds after it was placed
+-- what holds of a record, and of each device before it was placed, holds of each device afterwards
 all-placed : (P : Device → Type 0) (n : ℕ) (x : Device) (xs : List Device) → n ≤ length xs → P x → All P xs → All P (with_device n x xs)
 all-placed P n x xs within holds all k d inside = at (get_or (with_device n x xs) k d) (slice_get-get_or (with_device n x xs) k d inside)
   where
@@ -39,7 +39,7 @@ order_at t slot d sound at =
 
 -- ---- a record at the slot of its own device
 
--- the device's grants pass to those of this record, and use up these marks of its own
+-- the device's grants become those of this record, and use up these marks of its own
 pub record Regrants (t : TableState) (slot : ℕ) (x : Device) (marks : List Mark) : Type 0 where
   pub device : Device
   pub own : slot_of device.dev_eui.0 t.devices ≡ Some slot
@@ -55,12 +55,12 @@ module _ (t : TableState) (slot : ℕ) (x : Device) (marks : List Mark) (r : Reg
   same-slots : (e : ℕ) → slot_of e (with_record t slot x).devices ≡ slot_of e t.devices
   same-slots e = place-replaced name e 0 slot x r.device t.devices r.at (ap (λ (u : Eui). u.0) r.named)
 
-  -- the record covers what its device's grants do
+  -- at the slot, the table covers what the record's grants cover
   by_record : (m : Mark) → slot_of (session_in m).dev_eui.0 t.devices ≡ Some slot → GrantsCover x.activation m → Covers (with_record t slot x) m
   by_record m own grants =
       record { slot = slot; device = x; own = same-slots (session_in m).dev_eui.0 ∙ own; at = get-new slot x t.devices within; grants = grants }
 
-  -- what the table covers at the slot, the device's grants do
+  -- at the slot, the device's grants cover what the table covers
   by_device : (m : Mark) (c : Covers t m) → slot ≡ c.slot → GrantsCover r.device.activation m
   by_device m c here =
       let same : c.device ≡ r.device = same_Some c.device r.device (sym c.at ∙ (ap (slice_get t.devices) (sym here) ∙ r.at)) in
@@ -105,7 +105,7 @@ module _ (t : TableState) (slot : ℕ) (x : Device) (marks : List Mark) (r : Reg
 
 -- ---- a new device at the next slot
 
--- no other has its DevEUI, and its grants are in order
+-- no other device has its DevEUI, and its grants are in order
 pub record Brings (t : TableState) (slot : ℕ) (x : Device) : Type 0 where
   pub next : slot ≡ length t.devices
   pub is_new : slot_of x.dev_eui.0 t.devices ≡ None
@@ -141,7 +141,7 @@ module _ (t : TableState) (slot : ℕ) (x : Device) (b : Brings t slot x) where
 
 -- ---- one of these
 
--- a record passes the grants of its device on, or brings a device and uses up no mark
+-- a record passes on the grants of its device, or brings a new device and uses up no mark
 abbrev pub Changes : TableState → ℕ → Device → List Mark → Type 0
 Changes t slot x marks = Regrants t slot x marks ⊎ (Brings t slot x × (marks ≡ []))
 

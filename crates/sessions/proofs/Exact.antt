@@ -1,4 +1,4 @@
--- A device's exact answer is one of its table.
+-- An exact answer for a device is one for its table.
 use Rattle.std.proofs.Common.{◌≡◌, ◌∙◌, ℕ, List, Option, Result, Ok, Err, refl, sym, ap, subst}
 use Rattle.lw_types.specs.Answer.{Answers}
 use Rattle.lw_types.specs.declared.refusal.Refusal.{Refusal}

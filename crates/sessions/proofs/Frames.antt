@@ -42,7 +42,7 @@ uplink-frame frame (control.Uplink adr asks acks) u h =
     let taken : declared.Uplink = record { frame = frame; adr_ack_req = asks; ack = acks } in
     ap (λ (u : declared.Uplink). u.frame) (ok_is taken u (where_false (has_both frame.contents.f_opts frame.contents.message) (Ok taken) MacBoth u h))
 
--- no Join-Request is an uplink
+-- a Join-Request is no uplink
 no_request : (bytes : List ℕ) (u : declared.Uplink) (P : Type 0) → ◌≡◌ {A = Result Served Refusal} (Ok (Request bytes)) (Ok (Uplink u)) → P
 no_request bytes u P h = absurd (apart bytes u h)
   where
@@ -88,14 +88,14 @@ pub heard-ok : (net_id slot : ℕ) (d : Device) (h : Heard) (o : DeviceStep) →
     → (served : Served) × (received_in h ≡ Ok served) × (served_at net_id slot d h.hearings served ≡ Ok o)
 heard-ok net_id slot d h o is = both_ok (received_in h) (served_at net_id slot d h.hearings) o is
 
--- an uplink that was carried out is of the slot
+-- an uplink that was carried out belongs to the slot
 pub uplink-ok : (net_id slot : ℕ) (d : Device) (hearings : List Hearing) (u : declared.Uplink) (o : DeviceStep) → served_at net_id slot d hearings (Uplink u) ≡ Ok o
     → (slot_at u.frame.dev_addr.0 ≡ slot) × (uplink_at net_id slot d hearings u ≡ Ok o)
 uplink-ok net_id slot d hearings u o is =
     let found = where_true (slot_at u.frame.dev_addr.0 == slot) (uplink_at net_id slot d hearings u) UnknownDevAddr o is in
     (eqb-true (slot_at u.frame.dev_addr.0) slot found.0, found.1)
 
--- and leaves the device its name
+-- and leaves the device's name
 served-name : (net_id slot : ℕ) (d : Device) (hearings : List Hearing) (served : Served) (o : DeviceStep) → served_at net_id slot d hearings served ≡ Ok o
     → d.dev_eui ≡ o.device.dev_eui
 served-name net_id slot d hearings (Request bytes) o is = ap (λ (o : DeviceStep). o.device.dev_eui) (join-ok net_id slot d hearings bytes o is).is
@@ -132,7 +132,7 @@ step-unsent t h served e is unsent =
     stepped_at : ℕ → Result TableStep Refusal
     stepped_at slot = step1 t.net_id slot (slice_get t.devices slot) (command.Heard h) >>= λ o. Ok (step_at slot (slice_get t.devices slot) o)
 
--- a frame of a device that is there
+-- a frame from a known device
 step-served : (t : TableState) (h : Heard) (served : Served) (slot : ℕ) (d : Device) → received_in h ≡ Ok served → sender_slot t served ≡ Ok slot
     → slice_get t.devices slot ≡ Some d → step t (command.Heard h) ≡ (served_at t.net_id slot d h.hearings served >>= λ o. Ok (step_at slot (Some d) o))
 step-served t h served slot d is sender at =
@@ -147,7 +147,7 @@ step-served t h served slot d is sender at =
     stepped_at : ℕ → Result TableStep Refusal
     stepped_at slot = step1 t.net_id slot (slice_get t.devices slot) (command.Heard h) >>= λ o. Ok (step_at slot (slice_get t.devices slot) o)
 
--- a Join-Request, by any question that differs in its number alone
+-- a Join-Request, for any question that differs only in its number
 pub step-request : (t : TableState) (h : Heard) (request : List ℕ) (slot : ℕ) (d : Device) (ask : JoinAsk) → received_in h ≡ Ok (Request request)
     → slot_of (dev_eui_of request) t.devices ≡ Some slot → slice_get t.devices slot ≡ Some d → d.dev_eui.0 ≡ dev_eui_of request
     → (n : ℕ) → ask ≡ join_ask t.net_id slot d request n

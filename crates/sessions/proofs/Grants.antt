@@ -1,4 +1,4 @@
--- What a change of a device's grants does to the marks that they cover.
+-- How a change of a device's grants changes the marks that they cover.
 use Rattle.std.proofs.Common.{◌≡◌, ◌≢◌, ◌<◌, ◌≤◌, ◌+◌, ◌∙◌, ℕ, List, [], ◌∷◌, ◌++◌, Option, Some, None, Result, Ok, Err, arith, ap, refl, subst, sym}
 use Rattle.std.specs.Option.{IfSome, unwrap_or}
 use Rattle.std.specs.Result.{result_and}
@@ -17,7 +17,7 @@ use Rattle.sessions.specs.Marks.{GrantsCover, IsPast}
 use Rattle.sessions.proofs.Joins.{no_ok, ok_is}
 use Rattle.sessions.proofs.Moves.{Moves, moves_nowhere, moves_then, moves_unmarked}
 
--- from these grants to those, the marks are used up, and the grants stay in order
+-- from the first grants to the second, these marks are used up, and the grants stay in order
 pub record Passes (before after : Grants) (marks : List Mark) : Type 0 where
   pub moves : Moves GrantsCover before after marks
   pub in_order : AreInOrder before → AreInOrder after
@@ -65,7 +65,7 @@ module _ (g : Grants) (s : Session) (later : unwrap_or g.granted 0 < s.join_nonc
   order_granted order =
       record { current = omega (arith, order.current, later); pending = omega arith; later = omega (arith, order.current, later) }
 
-  -- a session is granted under a JoinNonce above the last one
+  -- a session is granted with a JoinNonce above the last one
   pub passes_grant : (name : SessionName) → name.join_nonce ≡ s.join_nonce → Passes g (with_grant g s) (Granted name ∷ [])
   passes_grant name same =
       let fresh : name.join_nonce ≤ unwrap_or g.granted 0 → ⊥ = λ was. absurd (omega (arith, was, later, same)) in
@@ -77,7 +77,7 @@ module _ (g : Grants) (s : Session) (later : unwrap_or g.granted 0 < s.join_nonc
 -- ---- the session that waited begins
 
 module _ (g : Grants) (s : Session) (up : ℕ) (waits : g.pending ≡ Some s) (order : AreInOrder g) where
-  -- it had used up no mark
+  -- the pending session had used up no mark
   untouched : (join_nonce : ℕ) (Past : CurrentSession → Type 0) → IsPast g join_nonce Past → s.join_nonce ≢ join_nonce
   untouched join_nonce Past was = subst (λ (p : Option Session). IfSome p (λ w. w.join_nonce ≢ join_nonce)) waits was.begun
 
@@ -107,14 +107,14 @@ module _ (g : Grants) (s : Session) (up : ℕ) (waits : g.pending ≡ Some s) (o
 -- ---- the session in use goes on
 
 module _ (g : Grants) (c : CurrentSession) (is : g.current ≡ Some c) (order : AreInOrder g) where
-  -- what is past of it
+  -- what is past of the current session
   past_of : (join_nonce : ℕ) (Past : CurrentSession → Type 0) → IsPast g join_nonce Past → c.session.join_nonce ≡ join_nonce → Past c
   past_of join_nonce Past was = subst (λ (o : Option CurrentSession). IfSome o (λ c. c.session.join_nonce ≡ join_nonce → Past c)) is was.past
 
   used_nonce : current_nonce g.current ≡ c.session.join_nonce
   used_nonce = ap current_nonce is
 
-  -- the session that waits is another one
+  -- the pending session is another one
   waits_apart : IfSome g.pending (λ s. s.join_nonce ≢ c.session.join_nonce)
   waits_apart = apart g.pending order.later
     where
@@ -130,7 +130,7 @@ module _ (g : Grants) (c : CurrentSession) (is : g.current ≡ Some c) (order : 
         later = subst (λ n. IfSome g.pending (λ s. n < s.join_nonce)) (used_nonce ∙ sym same) order.later;
       }
 
-  -- what is past of a session stays so
+  -- what is past of a session stays past
   past_on : (next : CurrentSession) → next.session.join_nonce ≡ c.session.join_nonce → (join_nonce : ℕ) (Past : CurrentSession → Type 0) → (Past c → Past next)
       → IsPast g join_nonce Past → IsPast (record g { current = Some next }) join_nonce Past
   past_on next same join_nonce Past on was =

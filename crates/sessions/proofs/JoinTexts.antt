@@ -1,4 +1,4 @@
--- What the texts of a question and of its answer say of the join server's answer.
+-- What the texts of a question and of its answer imply about the join server's answer.
 use Rattle.std.proofs.Common.{◌≡◌, ◌<◌, arith, ◌∙◌, ◌⊎◌, inl, inr, ℕ, Bool, true, false, not, MatchBool, cond, List, Option, Some, None, Result, Ok, Err, sym, ap, subst, refl}
 use Rattle.std.specs.Option.{unwrap_or}
 use Rattle.std.specs.Result.{MatchResult, result_and}
@@ -32,7 +32,7 @@ use Rattle.sessions.proofs.Joins.{no_ok, ok_is}
 
 -- ---- from texts to the reply
 
--- no text is of two questions, and none of two answers
+-- no text is of two questions, and no text is of two answers
 abbrev OneQuestion : Type 0
 OneQuestion = (text : List ℕ) (a b : JoinAsk) → IsAsk a → IsAsk b → IsJoinReq text a → IsJoinReq text b → a ≡ b
 
@@ -48,7 +48,7 @@ reply_to_text one s ask text found ranges is (inr (none, reply_is)) = absurd (no
 
 -- ---- from the reply to the answer
 
--- a refusal of this answer is what its cause tells
+-- a refusal of this answer is the refusal of its cause
 abbrev IsCaused : {A : Type 0} → Result A Refusal → Type 0
 IsCaused r = (e : Refusal) → r ≡ Err e → cause_refusal (cause_of e) ≡ e
 
@@ -80,7 +80,7 @@ answered_caused s ask = and_then (admission s ask.request) admitted
     and_then (Ok x) is = caused_ok {A = JoinState × JoinGrant} (state_after_join s ask, grant_of s ask)
     and_then (Err e) is = caused_err e (is e refl)
 
--- a refusal of this answer is told by a text
+-- each refusal of this answer is given by a text
 abbrev AreTold : {A : Type 0} → Result A Refusal → Type 0
 AreTold r = (e : Refusal) → r ≡ Err e → is_told_by_text e ≡ true
 
@@ -112,7 +112,7 @@ answered_told s ask = and_then (admission s ask.request) admitted
     and_then (Ok x) is = told_ok {A = JoinState × JoinGrant} (state_after_join s ask, grant_of s ask)
     and_then (Err e) is = told_err e (is e refl)
 
--- so is a refusal of the table, where it is the join server's
+-- so is a refusal of the table that comes from the join server
 pub step-told : {A : Type 0} (d : Device) (hearings : List Hearing) (ask : JoinAsk) (f : DeviceStep → A)
     → AreTold (join_step d hearings ask >>= λ o. Ok (f o))
 step-told {A} d hearings ask f = joined (answer_to (join_state d) ask) (answered_told (join_state d) ask)
@@ -148,7 +148,7 @@ module _ (s : JoinState) (ask : JoinAsk) (ans : JoinAns) (after : Option JoinSta
   is_told : (ans, after) ≡ server_reply ask (answer_to s ask)
   is_told = is ∙ ap (λ b. cond b (server_reply ask (answer_to s ask)) (ans_to ask (Err UnknownDevEui), None)) (eq-eqb (dev_eui_of ask.request) s.dev_eui.0 own)
 
-  -- where the answer grants a session
+  -- if the answer grants a session
   pub granted_is : (accepted : Accepted) → ans.result ≡ Ok accepted
       → (granted : JoinState × JoinGrant) × (answer_to s ask ≡ Ok granted) × (accepted ≡ accepted_of granted.1) × (after ≡ Some granted.0)
       × (granted.0.join_nonce ≡ Some granted.1.join_nonce)
@@ -169,7 +169,7 @@ module _ (s : JoinState) (ask : JoinAsk) (ans : JoinAns) (after : Option JoinSta
       by_answer (Err e) answer told_is =
           no_accepted (cause_of e) accepted _ (sym (ap (λ (x : JoinAns × Option JoinState). x.0.result) told_is) ∙ ok)
 
-  -- where it doesn't
+  -- if it doesn't
   pub refused_is : (cause : Cause) → ans.result ≡ Err cause → answer_to s ask ≡ Err (cause_refusal cause)
   refused_is cause err = by_answer (answer_to s ask) refl is_told
     where
@@ -180,7 +180,7 @@ module _ (s : JoinState) (ask : JoinAsk) (ans : JoinAns) (after : Option JoinSta
           let result = sym err ∙ ap (λ (x : JoinAns × Option JoinState). x.0.result) told_is in
           answer ∙ ap Err (sym (answered_caused s ask e answer) ∙ ap cause_refusal (sym (same_cause cause (cause_of e) result)))
 
--- a grant is its JoinNonce and what is accepted
+-- a grant is its JoinNonce and what was accepted
 pub same_grant : (a b : JoinGrant) → a.join_nonce ≡ b.join_nonce → accepted_of a ≡ accepted_of b → a ≡ b
 same_grant a b nonce accepted =
     λ i. record { join_nonce = nonce i; nwk_skey = (accepted i).nwk_skey; app_skey = (accepted i).app_skey; accept = (accepted i).accept }
@@ -192,7 +192,7 @@ above-last d ask granted is =
     let nonce : next_join_nonce d.activation.granted ≡ granted.1.join_nonce = ap (λ (g : JoinState × JoinGrant). g.1.join_nonce) (answered_is (join_state d) ask granted is) in
     omega arith
 
--- what comes of the answer
+-- the result of the answer
 pub joined-ok : (d : Device) (hearings : List Hearing) (ask : JoinAsk) (granted : JoinState × JoinGrant) → answer_to (join_state d) ask ≡ Ok granted
     → join_step d hearings ask ≡ Ok (grant_step d hearings granted)
 joined-ok d hearings ask granted is = ap (λ r. r >>= λ granted. Ok (grant_step d hearings granted)) is
@@ -200,7 +200,7 @@ joined-ok d hearings ask granted is = ap (λ r. r >>= λ granted. Ok (grant_step
 pub joined-err : (d : Device) (hearings : List Hearing) (ask : JoinAsk) (e : Refusal) → answer_to (join_state d) ask ≡ Err e → join_step d hearings ask ≡ Err e
 joined-err d hearings ask e is = ap (λ r. r >>= λ granted. Ok (grant_step d hearings granted)) is
 
--- an answer in memory, from what is wanted
+-- an answer that may run out of memory, from what is wanted
 pub memory-ok : {A B : Type 0} (wanted : Result A Refusal) (Is : A → B → Type 0) (x : A) (result : Result B Refusal) → wanted ≡ Ok x
     → MatchResult result (Is x) (λ e. e ≡ OutOfMemory) → AnswersWithMemory wanted Is result
 memory-ok {A} {B} wanted Is x (Ok found) is made = subst (λ (w : Result A Refusal). AnswersWithMemory w Is (Ok found)) (sym is) made
@@ -211,7 +211,8 @@ pub memory-err : {A B : Type 0} (wanted : Result A Refusal) (other : Result B Re
 memory-err {A} {B} wanted other e then (inl none) = inl none
 memory-err {A} {B} wanted other e then (inr is) = inr (then is)
 
--- of a Join-Request each of whose refusals is told by a text, memory may be out in the place of one
+-- for a Join-Request whose refusals are all given by texts, OutOfMemory may come in place of a
+-- refusal
 pub answers-by-text : {A B : Type 0} (h : Heard) (request : List ℕ) (wanted : Result A Refusal) (Is : A → B → Type 0) (result : Result B Refusal)
     → received_in h ≡ Ok (Request request) → AreTold wanted → AnswersWithMemory wanted Is result → AnswersTo (HeardCommand h) wanted Is result
 answers-by-text {A} {B} h request (Ok x) Is result asks told answer = value (is_frugal (HeardCommand h) (Ok x)) result answer
@@ -227,7 +228,7 @@ answers-by-text {A} {B} h request (Err e) Is result asks told answer =
     ap (λ r. cond (is_request r) (not (is_told_by_text e)) true) asks ∙ ap not (told e refl) in
     subst (λ b. MatchBool b (Answers (Err e) Is result) (AnswersWithMemory (Err e) Is result)) (sym asked) answer
 
--- a value that was answered in memory is the one that is wanted
+-- a value that was returned, when memory might have run out, is the wanted one
 pub memory-value : {A : Type 0} (wanted : Result A Refusal) (found : A) → AnswersWithMemory wanted (λ (x y : A). y ≡ x) (Ok found) → wanted ≡ Ok found
 memory-value {A} (Ok x) found is = ap Ok (sym is)
 memory-value {A} (Err e) found none = absurd none
@@ -237,7 +238,7 @@ pub memory-found : {A B : Type 0} (wanted : Result A Refusal) (Is : A → B → 
 memory-found {A} {B} (Ok x) Is found is = (x, refl, is)
 memory-found {A} {B} (Err e) Is found none = absurd none
 
--- an exact answer is one in memory
+-- an exact answer is also one that may run out of memory
 pub exact-found : {A B : Type 0} (wanted : Result A Refusal) (Is : A → B → Type 0) (found : B) → Answers wanted Is (Ok found)
     → (x : A) × (wanted ≡ Ok x) × Is x found
 exact-found {A} {B} (Ok x) Is found is = (x, refl, is)

@@ -22,12 +22,12 @@ no_ok e x P h = absurd (apart e x h)
     apart : {A : Type 0} (e : Refusal) (x : A) → ◌≡◌ {A = Result A Refusal} (Err e) (Ok x) → ⊥
     apart e x h = cc
 
--- the first of two calls that succeed one after another did
+-- if two calls one after another succeed, the first did
 pub both_ok : {A B : Type 0} (r : Result A Refusal) (f : A → Result B Refusal) (y : B) → (r >>= f) ≡ Ok y → (x : A) × (r ≡ Ok x) × (f x ≡ Ok y)
 both_ok {A} {B} (Ok x) f y h = (x, refl, h)
 both_ok {A} {B} (Err e) f y h = no_ok e y _ h
 
--- and so did the one that a test lets through
+-- and so did one that a test lets through
 pub where_true : {A : Type 0} (b : Bool) (r : Result A Refusal) (e : Refusal) (x : A) → cond b r (Err e) ≡ Ok x → (b ≡ true) × (r ≡ Ok x)
 where_true {A} true r e x h = (refl, h)
 where_true {A} false r e x h = no_ok e x _ h

@@ -1,4 +1,4 @@
--- What a change of state does to the marks that its states cover, one change after another.
+-- How a change of state changes the marks that the states cover, one change after another.
 use Rattle.std.proofs.Common.{◌≡◌, ◌≢◌, List, [], ◌∷◌, ◌++◌, Option, Some, None, refl, ap, subst}
 use Rattle.std.specs.List.{AllByRecursion}
 use Rattle.devices.specs.declared.effect.Effect.{Effect}
@@ -6,8 +6,8 @@ use Rattle.devices.specs.declared.mark.Mark.{Mark}
 use Rattle.devices.specs.Mark.{mark_of}
 use Rattle.sessions.specs.Marks.{AreDistinct, marks_of}
 
--- these marks are used up from one state to the next: what was covered still is, none of them was, all of them are
--- now, and none stands twice
+-- these marks are used up from one state to the next: covered marks stay covered, none of these was
+-- covered before, all of them are covered now, and none occurs twice
 pub record Moves {S : Type 0} (Covers : S → Mark → Type 0) (before after : S) (marks : List Mark) : Type 0 where
   pub keeps : (m : Mark) → Covers before m → Covers after m
   pub fresh : AllByRecursion (λ m. Covers before m → ⊥) marks
@@ -29,11 +29,11 @@ pub all_append : (P : Mark → Type 0) (first second : List Mark) → AllByRecur
 all_append P [] second one two = two
 all_append P (m ∷ first) second one two = (one.0, all_append P first second one.1 two)
 
--- a mark of which something holds is none of those of which it doesn't
+-- a mark with a property isn't among marks without it
 differs : (P : Mark → Type 0) (m : Mark) (ms : List Mark) → P m → AllByRecursion (λ n. P n → ⊥) ms → AllByRecursion (λ n. m ≢ n) ms
 differs P m ms holds others = all_then (λ n. P n → ⊥) (λ n. m ≢ n) ms (λ n other same. other (subst P same holds)) others
 
--- marks of which something holds, and then others of which it doesn't
+-- marks with a property, and then marks without it
 pub distinct_append : (P : Mark → Type 0) (first second : List Mark) → AllByRecursion P first → AllByRecursion (λ m. P m → ⊥) second
     → AreDistinct first → AreDistinct second → AreDistinct (first ++ second)
 distinct_append P [] second hold others one two = two

@@ -39,7 +39,7 @@ use Rattle.sessions.proofs.Uplinks.{Carries, FitsAreOf, uplink-carries}
 
 -- ---- one command
 
--- a slot is given to a new name alone, and is the next one
+-- a slot is given only to a new name, and is the next one
 new_slot-is : (t : TableState) (found : Option ℕ) (slot : ℕ) → new_slot t found ≡ Ok slot → (found ≡ None) × (slot ≡ length t.devices)
 new_slot-is t (Some taken) slot h = no_ok DevEuiTaken slot _ h
 new_slot-is t None slot h =
@@ -47,7 +47,7 @@ new_slot-is t None slot h =
     (λ room. (refl, sym (ok_is (length t.devices) slot (sym (ap (λ b. cond b (Ok (length t.devices)) (Err TableFull)) room) ∙ h))))
     (λ full. no_ok TableFull slot _ (sym (ap (λ b. cond b (Ok (length t.devices)) (Err TableFull)) full) ∙ h))
 
--- the Join-Accept of a session that is granted, or none, is of the device
+-- the Join-Accept of a granted session, or nothing, is the device's
 accept-theirs : (d : Device) (grant : JoinGrant) (best : Option Hearing)
     → AllByRecursion (λ m. d.dev_eui ≡ (session_in m).dev_eui) (marks_of (accept_effects d.dev_eui grant best))
 accept-theirs d grant None = tt
@@ -81,7 +81,7 @@ join-changes t slot d hearings request o own at g =
       passes = accept-passes d g.granted.1 (best_of hearings) later;
     })
 
--- what was queued leaves the device's grants as they were
+-- queueing leaves the device's grants unchanged
 queue-changes : (t : TableState) (slot : ℕ) (d : Device) (dev_eui : Eui) (o : DeviceStep)
     → slot_of d.dev_eui.0 t.devices ≡ Some slot → slice_get t.devices slot ≡ Some d → IsQueued d dev_eui o
     → Regrants t slot o.device (marks_of o.effects)
@@ -104,7 +104,7 @@ empty_used_up net_id slots =
       distinct = tt;
     }
 
--- An uplink fits into a session of its own device alone.
+-- An uplink fits only into a session of its own device.
 module _ (fits : FitsAreOf) where
   served-changes : (t : TableState) (slot : ℕ) (d : Device) (hearings : List Hearing) (served : Served) (o : DeviceStep) → IsSound t
       → slot_of d.dev_eui.0 t.devices ≡ Some slot → slice_get t.devices slot ≡ Some d → served_at t.net_id slot d hearings served ≡ Ok o
@@ -194,7 +194,7 @@ module _ (fits : FitsAreOf) where
 
 -- ---- parts
 
--- what holds of a list's elements holds of those that are left
+-- what holds of a list's elements holds of those that remain
 all_left : (P : Mark → Type 0) (ys xs : List Mark) → IsSubsequence xs ys → AllByRecursion P ys → AllByRecursion P xs
 all_left P [] xs is all = subst (λ (l : List Mark). AllByRecursion P l) (sym is) tt
 all_left P (y ∷ ys) xs (inl is) all = all_left P ys xs is all.1
@@ -207,13 +207,13 @@ distinct_left (y ∷ ys) xs (inl is) distinct = distinct_left ys xs is distinct.
 distinct_left (y ∷ ys) xs (inr (rest, front, is)) distinct =
     subst (λ (l : List Mark). AreDistinct l) (sym front) (all_left (λ z. y ≢ z) ys rest is distinct.0, distinct_left ys rest is distinct.1)
 
--- an effect was dropped: its mark is
+-- an effect was dropped, and so was its mark
 dropped : (mark : Option Mark) (effect : Effect) (effects : List Effect) (marks : List Mark) → mark_of effect ≡ mark
     → IsSubsequence marks (marks_of effects) → IsSubsequence marks (marks_of (effect ∷ effects))
 dropped None effect effects marks is h = rw is h
 dropped (Some mark) effect effects marks is h = rw is (inl h)
 
--- or it was left
+-- or it remained
 left : (mark : Option Mark) (effect : Effect) (rest effects : List Effect) → mark_of effect ≡ mark
     → IsSubsequence (marks_of rest) (marks_of effects) → IsSubsequence (marks_of (effect ∷ rest)) (marks_of (effect ∷ effects))
 left None effect rest effects is h = rw is h

@@ -1,4 +1,4 @@
--- What a table has after a record is placed, from what it had before.
+-- The devices of a table after a record is placed, from those before.
 use Rattle.std.proofs.Common.{◌<◌, ◌≤◌, ◌≢◌, ◌≡◌, ◌↔◌, ◌+◌, ◌∙◌, ℕ, suc, zero, true, cond, List, [], ◌∷◌, ◌++◌, length, take, drop, Option, Some, None, nat_eq, get_or, sym, ap, refl, arith, subst}
 use Rattle.std.specs.List.{slice_get}
 use Rattle.std.specs.Option.{MatchOption}
@@ -17,7 +17,8 @@ use Rattle.sessions.proofs.Runs.{CanPlace-fits, FitAll-next, applied_all-next}
 abbrev name : Device → ℕ
 name d = d.dev_eui.0
 
--- a record that may be placed is one of its own device at a slot in use, or of a new device at the next slot
+-- a record that may be placed is one of its own device, at a slot in use, or of a new device, at
+-- the next slot
 by_slot : (t : TableState) (slot : ℕ) (x : Device) → CanPlace t slot x → (P : Type 0)
     → ((old : Device) → slice_get t.devices slot ≡ Some old → old.dev_eui ≡ x.dev_eui → P)
     → (slice_get t.devices slot ≡ None → TakesNext t slot x → P) → P
@@ -57,7 +58,7 @@ within_slots t slot x can =
     (λ old at same. let within = slice_get_within t.devices slot old at in omega arith)
     (λ none next. omega (arith, next.0))
 
--- a name that stands somewhere is found
+-- a name that occurs is found
 is-found : (e i n : ℕ) (old : Device) (xs : List Device) → slice_get xs n ≡ Some old → name old ≡ e → place name e i xs ≢ None
 is-found e i n old [] at is none = absurd (none-some old at)
 is-found e i zero old (y ∷ ys) at is none =
@@ -68,7 +69,7 @@ is-found e i (suc n) old (y ∷ ys) at is none =
     (λ here. none-some i (sym none ∙ ap (λ b. cond b (Some i) (place name e (i + 1) ys)) here))
     (λ there. is-found e (i + 1) n old ys at is (sym (ap (λ b. cond b (Some i) (place name e (i + 1) ys)) there) ∙ none))
 
--- a name is new after a record was placed where it was new and isn't the record's
+-- a name is new after a record was placed if it was new before and isn't the record's
 new-placed : (t : TableState) (slot e : ℕ) (x : Device) → CanPlace t slot x
     → (slot_of e (with_record t slot x).devices ≡ None) ↔ ((slot_of e t.devices ≡ None) × (name x ≢ e))
 new-placed t slot e x can =
@@ -138,7 +139,7 @@ pub same_slots : (t : TableState) (ds : List Decision) → (with_decisions t ds)
 same_slots t [] = refl
 same_slots t (d ∷ ds) = same_slots (with_decision t d) ds
 
--- where each device of a table is found at its own slot, it is so of what decisions leave
+-- if each device of a table is found at its own slot, so is each device after decisions
 own-placed : (t : TableState) (slot : ℕ) (x : Device) → CanPlace t slot x → HaveOwnSlots t.devices → HaveOwnSlots (with_record t slot x).devices
 own-placed t slot x can own =
     by_slot t slot x can (HaveOwnSlots (with_record t slot x).devices)
@@ -155,7 +156,7 @@ pub has-own-place : (t : TableState) (ds : List Decision) (slot : ℕ) (after de
 has-own-place t ds slot after device before fit own found is =
     subst (HasPlace (with_decisions t ds) slot after) (sym is) (own-left t ds fit own slot device (sym found ∙ is))
 
--- a device that is found by its name is in the list, and has the name
+-- a device that is found by its name is in the list and has the name
 pub found_name : (e : ℕ) (slot : ℕ) (d : Device) (devices : List Device) → slot_of e devices ≡ Some slot → slice_get devices slot ≡ Some d → d.dev_eui.0 ≡ e
 found_name e slot d devices found at =
     let f = place-found name e 0 devices slot found in

@@ -15,7 +15,7 @@ use Rattle.sessions.proofs.Joins.{ok_is, where_false, where_true}
 
 -- ---- what was queued
 
--- it was asked under the device's name, which the device keeps, as its grants; and it used up no mark
+-- the command names the device, which keeps its name and its grants; and it used up no mark
 pub record IsQueued (d : Device) (dev_eui : Eui) (o : DeviceStep) : Type 0 where
   pub asked : dev_eui.0 ≡ d.dev_eui.0
   pub named : d.dev_eui ≡ o.device.dev_eui

@@ -21,7 +21,7 @@ use Rattle.sessions.proofs.Slots.{own-last, place-found, split}
 abbrev name : Device → ℕ
 name d = d.dev_eui.0
 
--- where the first device of this name stands, in a list that begins at slot i
+-- where the first device of this name is, in a list that begins at slot i
 abbrev place : ℕ → ℕ → List Device → Option ℕ
 place e i devices = position_from (λ d. nat_eq d.dev_eui.0 e) i devices
 
@@ -38,7 +38,7 @@ named s d same = ap (λ b. cond b (raised_device s.join_nonce d) d) (eq-eqb d.de
 
 -- ---- one device of a table
 
--- without a device of this name nothing is raised
+-- if no device has this name, nothing is raised
 pub unraised : (s : SessionName) (i : ℕ) (devices : List Device) → place s.dev_eui.0 i devices ≡ None → map (raised_by s) devices ≡ devices
 unraised s i [] none = refl
 unraised s i (d ∷ devices) none =
@@ -48,7 +48,7 @@ unraised s i (d ∷ devices) none =
     let rest : place s.dev_eui.0 (i + 1) devices ≡ None = sym (ap (λ b. cond b (Some i) (place s.dev_eui.0 (i + 1) devices)) there) ∙ none in
     ap (λ b. cond b (raised_device s.join_nonce d) d ∷ map (raised_by s) devices) there ∙ ap (λ l. d ∷ l) (unraised s (i + 1) devices rest))
 
--- the device of this name that stands first is raised, and there is no other
+-- the first device of this name is raised, and there is no other
 pub one_raised : (s : SessionName) (n i j : ℕ) (devices : List Device) (d : Device) → slice_get devices n ≡ Some d → d.dev_eui.0 ≡ s.dev_eui.0
     → place s.dev_eui.0 i devices ≡ Some (i + n) → place s.dev_eui.0 j (drop (suc n) devices) ≡ None
     → set devices n (raised_device s.join_nonce d) ≡ map (raised_by s) devices
@@ -76,7 +76,7 @@ raised_at s n devices d own at found same =
     let here : slot_of s.dev_eui.0 devices ≡ Some (0 + n) = found ∙ ap Some (let e : n ≡ 0 + n = omega arith in e) in
     one_raised s n 0 0 devices d at same here last
 
--- ---- what a record stands for
+-- ---- what a record represents
 
 -- the last granted JoinNonce is the higher one of the two
 raised_nonce : (to : ℕ) (g : Grants) → unwrap_or (raised_grants to g).granted 0 ≡ max (unwrap_or g.granted 0) to
@@ -103,7 +103,7 @@ grows s d =
     subst (λ n. granted d ≤ n) (sym higher) (le-max_left (granted d) s.join_nonce))
     (λ there. subst (λ n. granted d ≤ n) (sym (ap (λ b. granted (cond b (raised_device s.join_nonce d) d)) there)) (omega arith))
 
--- the last granted JoinNonce of the device that the session names is the session's at least
+-- the last granted JoinNonce of the device that the session names is at least the session's
 reaches : (s : SessionName) (d : Device) (e : ℕ) → d.dev_eui.0 ≡ e → cond (nat_eq s.dev_eui.0 e) s.join_nonce 0 ≤ granted (raised_by s d)
 reaches s d e is =
     split (nat_eq s.dev_eui.0 e)

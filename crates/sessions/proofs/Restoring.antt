@@ -17,7 +17,7 @@ use Rattle.sessions.specs.Restored.{restored_table, IsSince}
 use Rattle.sessions.specs.Table.{TableState, slot_of}
 use Rattle.sessions.proofs.Slots.{split}
 
--- where each device keeps its name, each name keeps its place
+-- if each device keeps its name, each name keeps its place
 module _ (f : Device → Device) (keeps : (d : Device) → (f d).dev_eui.0 ≡ d.dev_eui.0) where
   pub same_place : (dev_eui i : ℕ) (devices : List Device)
       → position_from (λ d. nat_eq d.dev_eui.0 dev_eui) i (map f devices) ≡ position_from (λ d. nat_eq d.dev_eui.0 dev_eui) i devices
@@ -26,7 +26,7 @@ module _ (f : Device → Device) (keeps : (d : Device) → (f d).dev_eui.0 ≡ d
       ap (λ n. cond (nat_eq n dev_eui) (Some i) (position_from (λ d. nat_eq d.dev_eui.0 dev_eui) (i + 1) (map f devices))) (keeps d)
       ∙ ap (cond (nat_eq d.dev_eui.0 dev_eui) (Some i)) (same_place dev_eui (i + 1) devices)
 
-  -- what stands at a slot was there
+  -- what is at a slot was there before
   was_there : (o : Option Device) (d : Device) → option_map f o ≡ Some d → (old : Device) × ((o ≡ Some old) × (f old ≡ d))
   was_there None d e = absurd (none-some d e)
   was_there (Some old) d e = (old, (refl, same_Some (f old) d e))

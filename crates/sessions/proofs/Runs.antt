@@ -55,7 +55,7 @@ err-ok x h = cc
 no-ok : {P : Type 0} {A : Type 0} (x : A) → ◌≡◌ {A = Result A Refusal} (Err TableFull) (Ok x) → P
 no-ok {P} x h = absurd (err-ok x h)
 
--- a slot is given to a new name alone, and is the next one
+-- a slot is given only to a new name, and is the next one
 new_slot-ok : (t : TableState) (found : Option ℕ) (slot : ℕ) (P : Type 0) → new_slot t found ≡ Ok slot
     → (found ≡ None → slot ≡ length t.devices → slot < t.slots → P) → P
 new_slot-ok t (Some taken) slot P h goes = absurd (taken-ok slot h)
@@ -81,14 +81,14 @@ name_provisioned net_id slot p o is = ap (λ (o : DeviceStep). o.device.dev_eui.
 not_provisioned : (net_id slot : ℕ) (d : Device) (p : Provisioning) (o : DeviceStep) (P : Type 0) → step1 net_id slot (Some d) (Provision p) ≡ Ok o → P
 not_provisioned net_id slot d p o P is = ok-or-err DevEuiTaken o P is
 
--- a step leaves a device that is there its name
+-- a step leaves a known device its name
 keeps_name : (net_id slot : ℕ) (d : Device) (c : Command) (o : DeviceStep) → step1 net_id slot (Some d) c ≡ Ok o → d.dev_eui ≡ o.device.dev_eui
 keeps_name net_id slot d (Provision p) o is = not_provisioned net_id slot d p o _ is
 keeps_name net_id slot d (Heard h) o is = heard-name net_id slot d h o is
 keeps_name net_id slot d (Queue q) o is = (queue-ok d q o is).named
 keeps_name net_id slot d (QueueMac q) o is = (queue_mac-ok d q o is).named
 
--- no frame is carried out where no device is
+-- no frame is carried out if there is no device
 unheard_ok : (frame : Result Served Refusal) (o : DeviceStep) (P : Type 0) → (frame >>= λ served. Err (unknown_sender served)) ≡ Ok o → P
 unheard_ok (Ok served) o P h = no_ok (unknown_sender served) o P h
 unheard_ok (Err e) o P h = no_ok e o P h
@@ -179,7 +179,8 @@ ContinueAll-split t seq first second both =
     let numbered = AreNumbered-split seq first second both.numbered in
     (record { fit = fit.0; numbered = numbered.0 }, record { fit = fit.1; numbered = numbered.1 })
 
--- a decision that was made of a table brings a device to the next slot, or changes the record of one that is there
+-- a decision that was made of a table brings a device to the next slot, or changes the record of a
+-- known one
 by_place : (t : TableState) (d : Decision) → FitsTable t d → (P : Type 0)
     → (slice_get t.devices d.slot ≡ None → TakesNext t d.slot d.after → P)
     → ((device : Device) → slice_get t.devices d.slot ≡ Some device → device.dev_eui ≡ d.after.dev_eui → slot_of device.dev_eui.0 t.devices ≡ Some d.slot → P) → P
@@ -243,7 +244,7 @@ pub applied_all-next : (t : TableState) (n : ℕ) (d : Decision) (ds : List Deci
 applied_all-next t n d ds within item =
     ap (with_decisions t) (take_more ds n d within ∙ ap (λ x. take n ds ++ x ∷ []) (sym item)) ∙ applied_all-append t (take n ds) (d ∷ [])
 
--- an answer that is no refusal is what is wanted
+-- an answer that isn't a refusal is what is wanted
 pub AnswersTo-ok : {A B : Type 0} (c : Command) (wanted : Result A Refusal) (Is : A → B → Type 0) (found : B) → AnswersTo c wanted Is (Ok found)
     → (x : A) × (wanted ≡ Ok x) × Is x found
 AnswersTo-ok {A} {B} c wanted Is found answers = by_frugal (is_frugal c wanted) wanted answers
@@ -263,7 +264,7 @@ AnswersTo-is {A} {B} c wanted Is x found ok is = subst (λ (w : Result A Refusal
     by_frugal true = is
     by_frugal false = is
 
--- a refusal that is handed on is answered as it was
+-- a refusal that is passed on is still the answer
 pub AnswersTo-handed : {A B C : Type 0} (c : Command) (wanted : Result A Refusal) (Is : A → B → Type 0) (Is' : A → C → Type 0) (e : Refusal)
     → AnswersTo c wanted Is (Err e) → AnswersTo c wanted Is' (Err e)
 AnswersTo-handed {A} {B} {C} c wanted Is Is' e answers = by_frugal (is_frugal c wanted) wanted answers
@@ -280,7 +281,7 @@ AnswersTo-err {A} {B} {C} c wanted Is Is' e result handed answers =
     let r = err_from_is_err_and result handed in
     subst (AnswersTo c wanted Is') (sym (r.1 ∙ ap Err r.2)) (AnswersTo-handed c wanted Is Is' e answers)
 
--- and so is want of memory, where something is wanted
+-- and so is OutOfMemory, if something is wanted
 pub AnswersTo-memory : {A B : Type 0} (c : Command) (wanted : Result A Refusal) (Is : A → B → Type 0) (x : A) (e : Refusal) (result : Result B Refusal) → wanted ≡ Ok x
     → IsErrAnd result (λ y. y ≡ e) → e ≡ OutOfMemory → AnswersTo c wanted Is result
 AnswersTo-memory {A} {B} c wanted Is x e result ok handed none =
@@ -291,7 +292,7 @@ AnswersTo-memory {A} {B} c wanted Is x e result ok handed none =
     by_frugal true = none
     by_frugal false = inl none
 
--- a step of a table stands at its command's slot, on the record there
+-- a step of a table is at its command's slot, on the record there
 pub step-parts : (t : TableState) (c : Command) (s : TableStep) → step t c ≡ Ok s → (place_for t c ≡ Ok s.slot) × (s.before ≡ slice_get t.devices s.slot)
 step-parts t c s h = at (place_for t c) refl h
   where
@@ -337,7 +338,7 @@ known-ok : (found : Option ℕ) (slot : ℕ) → known_slot found ≡ Ok slot �
 known-ok (Some own) slot is = ap Some (same_Ok own slot is)
 known-ok None slot is = no_ok UnknownDevEui slot _ is
 
--- the device of a name that is known
+-- the device with a known name
 pub known-device : (t : TableState) (dev_eui slot : ℕ) → known_slot (slot_of dev_eui t.devices) ≡ Ok slot
     → (d : Device) × (slice_get t.devices slot ≡ Some d) × (slot_of d.dev_eui.0 t.devices ≡ Some slot)
 known-device t dev_eui slot known =
@@ -362,7 +363,7 @@ pub sender-device : (t : TableState) (served : Served) (slot : ℕ) → HaveOwnS
 sender-device t (Request bytes) slot own sender = known-device t (dev_eui_of bytes) slot sender
 sender-device t (Uplink u) slot own sender = used-device t (slot_at u.frame.dev_addr.0) slot own sender
 
--- a device that is there is in its place
+-- a known device is in its place
 device-place : (t : TableState) (slot : ℕ) (after d : Device) → length t.devices ≤ t.slots → slice_get t.devices slot ≡ Some d
     → slot_of d.dev_eui.0 t.devices ≡ Some slot → (slot < t.slots) × HasPlace t slot after (slice_get t.devices slot)
 device-place t slot after d few at own =
@@ -410,7 +411,7 @@ Fits-decision t seq c s d few own is made =
       place = subst (HasPlace t d.slot d.after) (sym before) place.1;
     }
 
--- the decision behind those that continue a table continues what they leave
+-- a decision after those that continue a table continues what they leave
 pub ContinueAll-next : (t : TableState) (seq n : ℕ) (d : Decision) (ds : List Decision) → n < length ds → d ≡ get_or ds n d
     → ContinueAll t seq ds → Continues (with_decisions t (take n ds)) (seq + n) d
 ContinueAll-next t seq n d ds within item all =

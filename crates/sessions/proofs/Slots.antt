@@ -1,4 +1,4 @@
--- The place of a name in a list, when an element is replaced or added.
+-- The place of a name in a list when an element is replaced or added.
 use Rattle.std.proofs.Common.{◌<◌, ◌≢◌, ◌≡◌, ◌+◌, ℕ, suc, zero, Bool, true, false, cond, List, [], ◌∷◌, ◌++◌, length, take, drop, Option, Some, None, nat_eq, sym, ◌∙◌, ap, refl, arith}
 use Rattle.std.specs.List.{position_from, slice_get}
 use Rattle.std.proofs.lemmas.Bool.{eqb-true, eq-eqb, ne_eqb, true≢false}
@@ -10,7 +10,7 @@ split true left right = left refl
 split false left right = right refl
 
 module _ {X : Type 0} (name : X → ℕ) where
-  -- where the first element of this name stands, in a list that begins at index i
+  -- the index of the first element with this name, in a list that begins at index i
   abbrev pub place : ℕ → ℕ → List X → Option ℕ
   place e i xs = position_from (λ x. nat_eq (name x) e) i xs
 
@@ -94,7 +94,7 @@ module _ {X : Type 0} (name : X → ℕ) where
       ∙ (ap (λ b. cond b (Some (0 + length xs)) (place (name x) 0 xs)) (eq-eqb (name y) (name x) (ap name is_new))
       ∙ ap Some (let e : 0 + length xs ≡ k = omega arith in e)))
 
-  -- where a name stands, an element has it
+  -- the element at a name's place has the name
   pub place-found : (e i : ℕ) (xs : List X) (k : ℕ) → place e i xs ≡ Some k → (m : ℕ) × (x : X) × (k ≡ i + m) × (slice_get xs m ≡ Some x) × (name x ≡ e)
   place-found e i [] k at = absurd (none-some k at)
   place-found e i (x ∷ xs) k at =
@@ -113,7 +113,7 @@ module _ {X : Type 0} (name : X → ℕ) where
   none-or-some None never = refl
   none-or-some (Some k) never = absurd (never k refl)
 
-  -- a name stands nowhere behind its own place
+  -- a name doesn't occur after its own place
   pub own-last : (n : ℕ) (old : X) (xs : List X) (i : ℕ) → HaveOwnNames xs → slice_get xs n ≡ Some old → place (name old) i (drop (suc n) xs) ≡ None
   own-last n old xs i own at = none-or-some (place (name old) i (drop (suc n) xs)) (λ k found.
       let f = place-found (name old) i (drop (suc n) xs) k found in
@@ -121,7 +121,7 @@ module _ {X : Type 0} (name : X → ℕ) where
       let same : n ≡ suc n + f.0 = same_Some n (suc n + f.0) (sym (own n old at) ∙ (ap (λ e. place e 0 xs) (sym f.4) ∙ own (suc n + f.0) f.1 behind)) in
       omega arith)
 
-  -- where each name stands after the element at n has a new one
+  -- where each name is after the element at n has a new one
   pub place-renamed : (e i n : ℕ) (y old : X) (xs : List X) → slice_get xs n ≡ Some old → place (name old) i xs ≡ Some (i + n) → place (name y) i xs ≡ None
       → ((j : ℕ) → place (name old) j (drop (suc n) xs) ≡ None)
       → place e i (take n xs ++ y ∷ drop (suc n) xs) ≡ cond (nat_eq (name y) e) (Some (i + n)) (cond (nat_eq (name old) e) None (place e i xs))

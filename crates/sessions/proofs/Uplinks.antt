@@ -36,7 +36,8 @@ use Rattle.sessions.proofs.Moves.{all_append, marks_of-append}
 
 -- ---- a device is answered
 
--- the device keeps its name; its grants are the same and no mark is used up, or a counter of the session is
+-- the device keeps its name; either its grants are the same and no mark is used up, or a counter of
+-- the session is
 record IsAnswer (d : Device) (c : CurrentSession) (o : DeviceStep) : Type 0 where
   pub named : d.dev_eui ≡ o.device.dev_eui
   pub grants : (d.activation ≡ o.device.activation) × (marks_of o.effects ≡ [])
@@ -49,7 +50,7 @@ sent-is : (d : Device) (c : CurrentSession) (spent : Bool) (sent : DeviceStep) �
 sent-is d c true sent name used marks = record { named = refl; grants = inl (refl, refl) }
 sent-is d c false sent name used marks = record { named = name; grants = inr (used, marks) }
 
--- an answer where one is due
+-- an answer, if one is due
 due-is : (d : Device) (c : CurrentSession) (due : Bool) (o : DeviceStep) → IsAnswer d c o → IsAnswer d c (cond due o (device_step d []))
 due-is d c true o answer = answer
 due-is d c false o answer = record { named = refl; grants = inl (refl, refl) }
@@ -88,9 +89,9 @@ answer-carries d c o answer current order = by answer.grants
               (subst (λ g. Passes d.activation g (Sent (name_of d c) c.next_down ∷ [])) used (passes_down d.activation c current order (name_of d c) refl));
         }
 
--- ---- what is told before the answer
+-- ---- what is reported before the answer
 
--- effects without a mark, and others behind them
+-- effects without a mark, and others after them
 behind_unmarked : (first second : List Effect) → marks_of first ≡ [] → marks_of (first ++ second) ≡ marks_of second
 behind_unmarked first second none = marks_of-append first second ∙ ap (λ ms. ms ++ marks_of second) none
 
@@ -116,7 +117,7 @@ forwarded-marks addr d c copies best (Some sent) = by_port (is_application sent.
     by_port true payload = inr refl
     by_port false payload = inl refl
 
--- unmarked effects and, behind them, the payload's
+-- unmarked effects and, after them, the payload's
 behind_told : (d : Device) (c : CurrentSession) (awaited reported handed : List Effect) → marks_of awaited ≡ [] → marks_of reported ≡ []
     → MayForward d c (marks_of handed) → MayForward d c (marks_of (awaited ++ (reported ++ handed)))
 behind_told d c awaited reported handed none no_commands may =
@@ -139,7 +140,7 @@ module _ (net_id slot : ℕ) (d : Device) (fit : Fit) (u : Uplink) (copies : ℕ
   taken-name : d.dev_eui ≡ (uplink_step net_id slot d fit u copies best).device.dev_eui
   taken-name = (answered-is net_id slot (with_uplink d fit) c (demand_of c u copies best)).named
 
-  -- it is handed on in a session that the device has then
+  -- the uplink is handed on in a session that the device has afterwards
   taken-carries : Passes d.activation (grants_after d.activation fit) (Forwarded (name_of d c) c.last_up ∷ [])
       → (grants_after d.activation fit).current ≡ Some c → AreInOrder d.activation → Carries d (uplink_step net_id slot d fit u copies best)
   taken-carries passes current order =
@@ -213,7 +214,7 @@ uplink-fits net_id slot d hearings u o is = by_best (best_of hearings) is
         let on = where_true (may_use (fitted_session fitted.0).channels best.reception.frequency) (Ok fitted.0) UnknownChannel found.0 fitted.2 in
         (best, found.0, fitted.1 ∙ on.1, found.2)
 
--- it leaves the device its name
+-- it leaves the device's name
 pub uplink-name : (net_id slot : ℕ) (d : Device) (hearings : List Hearing) (u : Uplink) (o : DeviceStep) → uplink_at net_id slot d hearings u ≡ Ok o
     → d.dev_eui ≡ o.device.dev_eui
 uplink-name net_id slot d hearings u o is =

@@ -15,7 +15,7 @@ use Rattle.sessions.specs.Table.{TableState, TableStep, TakesNext, slot_of, step
 use Rattle.sessions.specs.declared.table.decide.Stepped.{Stepped}
 use Rattle.sessions.specs.declared.decision.Decision.{Decision}
 
--- the place of a record: a device that is provisioned takes the next slot, and one that is there is
+-- the place of a record: a device that is provisioned takes the next slot, and a known device is
 -- found at its own
 abbrev pub HasPlace : TableState → ℕ → Device → Option Device → Type 0
 HasPlace t slot after before =
@@ -30,7 +30,7 @@ pub record FitsTable (t : TableState) (d : Decision) : Type 0 where
   pub within : d.slot < t.slots
   pub place : HasPlace t d.slot d.after d.before
 
--- it was made of this table and has the next sequence number
+-- the decision was made of this table and has the next sequence number
 pub record Continues (t : TableState) (seq : ℕ) (d : Decision) : Type 0 where
   pub fits : FitsTable t d
   pub number : d.seq ≡ seq + 1
@@ -43,12 +43,12 @@ abbrev pub with_decisions : TableState → List Decision → TableState
 with_decisions t [] = t
 with_decisions t (d ∷ ds) = with_decisions (with_decision t d) ds
 
--- the table with what was at this slot before: a record, or nothing where the slot was the next one
+-- the table with what was at this slot before: a record, or nothing if the slot was the next one
 abbrev pub with_before : TableState → ℕ → Option Device → TableState
 with_before t slot (Some before) = with_record t slot before
 with_before t slot None = record t { devices = take slot t.devices }
 
--- the table with the record that the decision found, or without a device where it found none
+-- the table with the record that the decision found, or without the device if it found none
 abbrev pub without_decision : TableState → Decision → TableState
 without_decision t d = with_before t d.slot d.before
 
@@ -66,12 +66,13 @@ abbrev pub AreNumbered : ℕ → List Decision → Type 0
 AreNumbered seq [] = Unit {0}
 AreNumbered seq (d ∷ ds) = (d.seq ≡ seq + 1) × AreNumbered (seq + 1) ds
 
--- what may follow a table under a number
+-- these decisions may follow a table and a number
 pub record ContinueAll (t : TableState) (seq : ℕ) (ds : List Decision) : Type 0 where
   pub fit : FitAll t ds
   pub numbered : AreNumbered seq ds
 
--- what may be committed on a table: at least one decision, and each continues what is before it
+-- what may be committed on a table: at least one decision, and each continues the table after those
+-- before it
 pub record IsLegalContinuation (t : TableState) (seq : ℕ) (ds : List Decision) : Type 0 where
   pub some : ds ≢ []
   pub continues : ContinueAll t seq ds
@@ -82,7 +83,7 @@ commands_of ds = map (λ d. d.command) ds
 abbrev pub effects_in : List Decision → List Effect
 effects_in ds = flat_map (λ d. d.effects) ds
 
--- the decision is this step of this command under this number
+-- the decision is this step of this command, with this number
 pub record IsDecision (t : TableState) (seq : ℕ) (asked : Command) (s : TableStep)
     (d : Decision) : Type 0 where
   pub net : d.net_id ≡ t.net_id
@@ -93,8 +94,8 @@ pub record IsDecision (t : TableState) (seq : ℕ) (asked : Command) (s : TableS
   pub after : d.after ≡ s.after
   pub effects : d.effects ≡ s.effects
 
--- whether a refusal of a command is known before any memory is taken for it: each is, but of a
--- Join-Request those of the join server, which is asked by texts
+-- whether a refusal of a command is known before any memory is taken for it. Each refusal is,
+-- except those of the join server for a Join-Request: it is asked by texts
 abbrev pub is_frugal : {A : Type 0} → Command → Result A Refusal → Bool
 is_frugal (Provision p) outcome = true
 is_frugal (Heard h) outcome =
@@ -102,8 +103,8 @@ is_frugal (Heard h) outcome =
 is_frugal (Queue q) outcome = true
 is_frugal (QueueMac q) outcome = true
 
--- what is answered to a command: exactly what is wanted, unless memory is out; and where a refusal
--- is wanted that isn't frugal, OutOfMemory may stand in its place
+-- the result for a command: exactly what is wanted, unless memory runs out. If a refusal is wanted
+-- that isn't frugal, OutOfMemory may come in its place
 abbrev pub AnswersTo : {A B : Type 0} → Command → Result A Refusal → (A → B → Type 0)
     → Result B Refusal → Type 0
 AnswersTo command wanted Is result =
@@ -111,7 +112,7 @@ AnswersTo command wanted Is result =
     (Answers wanted Is result)
     (AnswersWithMemory wanted Is result)
 
--- the step of the command is decided, or its refusal is answered
+-- the step of the command is decided, or its refusal is returned
 abbrev pub Decides : TableState → ℕ → Command → Result Decision Refusal → Type 0
 Decides t seq command result = AnswersTo command (step t command) (IsDecision t seq command) result
 

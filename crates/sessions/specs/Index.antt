@@ -1,4 +1,4 @@
--- How a table is kept.
+-- How a table is stored.
 use Rattle.devices.specs.declared.device.Device.{Device}
 use Rattle.std.specs.Prelude.{List, Some, slice_get, ◌≡◌, ◌≤◌, ◌-◌, ℕ, nat_eq, length, vec_capacity}
 use Rattle.std.specs.HashMap.{get, spare}
@@ -9,7 +9,7 @@ use Rattle.sessions.specs.declared.table.Table.TheInside.{Inside}
 abbrev pub table_of : Inside → TableState
 table_of t = record { net_id = t.net_id; slots = t.slots; devices = t.devices.items }
 
--- each device is found at its own slot, so no two have one DevEUI
+-- each device is found at its own slot, so no two have the same DevEUI
 abbrev pub HaveOwnSlots : List Device → Type 0
 HaveOwnSlots devices =
     (slot : ℕ) (d : Device) → slice_get devices slot ≡ Some d

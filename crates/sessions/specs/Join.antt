@@ -1,4 +1,4 @@
--- A device is granted a session (TS001-1.0.4 §6.2).
+-- Granting a device a session (TS001-1.0.4 §6.2).
 use Rattle.std.specs.Prelude.{ℕ, ◌==◌, ◌*◌, ◌%◌, ◌^◌, Bool, true, false, if◌then◌else◌, List, []}
 use Rattle.std.specs.Prelude.{◌∷◌, Option, Some, None, Result, Ok, Err}
 use Rattle.lw_types.specs.declared.identifiers.Eui.{Eui}
@@ -30,7 +30,7 @@ use Rattle.uplinks.specs.Chain.{◌>>=◌}
 
 -- ---- the question to the join server
 
--- what the join server keeps of a device
+-- what the join server stores of a device
 abbrev pub join_state : Device → JoinState
 join_state d =
     record {
@@ -41,12 +41,11 @@ join_state d =
       join_nonce = d.activation.granted;
     }
 
--- a question is numbered as the decision that it would lead to, in 32 bits
+-- the number of a question: that of the decision to which it would lead, in 32 bits
 abbrev pub transaction_of : ℕ → ℕ
 transaction_of seq = seq % 2 ^ 32
 
--- the question for the device at a slot, under the address that its next session has; RX2 has data
--- rate 0
+-- the question for the device at a slot, with the address of its next session; RX2 has data rate 0
 abbrev pub join_ask : ℕ → ℕ → Device → List ℕ → ℕ → JoinAsk
 join_ask net_id slot d request transaction =
     record {
@@ -58,7 +57,7 @@ join_ask net_id slot d request transaction =
       transaction = transaction;
     }
 
--- a refusal of the join server, from the cause that its text tells
+-- a refusal of the join server, from the cause in its text
 abbrev pub cause_refusal : Cause → Refusal
 cause_refusal causes.UnknownDevEui = UnknownDevEui
 cause_refusal causes.WrongJoinEui = WrongJoinEui
@@ -67,7 +66,7 @@ cause_refusal causes.DevNonceUsed = DevNonceUsed
 cause_refusal causes.JoinNonceSpent = JoinNonceSpent
 cause_refusal causes.BadMessage = BadMessage
 
--- the refusals of the join server, each of which it tells by a text
+-- the refusals of the join server, each of which is given by a text
 abbrev pub is_told_by_text : Refusal → Bool
 is_told_by_text WrongJoinEui = true
 is_told_by_text BadMic = true
@@ -81,7 +80,7 @@ is_refused_by_text (Err refusal) = is_told_by_text refusal
 
 -- ---- what is granted
 
--- its accept has the CFList, so the device has all eight channels
+-- the accept has the CFList, so the device has all eight channels
 abbrev pub granted_session : JoinGrant → Session
 granted_session grant =
     record {
@@ -100,10 +99,10 @@ with_session d granted =
       activation = with_grant d.activation (granted_session granted.1);
     }
 
--- the Join-Accept is sent by the gateway that heard the request best, 5 s after it
--- (JOIN_ACCEPT_DELAY1) at its frequency and data rate, or a second later in RX2 (TS001-1.0.4
--- §6.2.6). RX1 has the request's data rate whatever the device's RX1DROffset is, which holds from
--- the accept on: the standard leaves it open
+-- the Join-Accept is sent by the gateway that heard the request best. It is sent 5 s after the
+-- request (JOIN_ACCEPT_DELAY1), at its frequency and data rate, or a second later in RX2
+-- (TS001-1.0.4 §6.2.6). RX1 has the request's data rate, for any RX1DROffset of the device: the
+-- offset applies after the accept, and the standard leaves this open
 abbrev pub accept_downlink : Hearing → List ℕ → Downlink
 accept_downlink best frame =
     record {
@@ -128,13 +127,12 @@ abbrev pub grant_step : Device → List Hearing → JoinState × JoinGrant → D
 grant_step d hearings granted =
     device_step (with_session d granted) (accept_effects d.dev_eui granted.1 (best_of hearings))
 
--- what comes of the answer to a question
+-- the result of the answer to a question
 abbrev pub join_step : Device → List Hearing → JoinAsk → Result DeviceStep Refusal
 join_step d hearings ask =
     answer_to (join_state d) ask >>= λ granted. Ok (grant_step d hearings granted)
 
--- the device that asks is granted a session, or refused one; the number of the question has no part
--- in it
+-- the device that asks is granted or refused a session; the number of the question doesn't matter
 abbrev pub join_at : ℕ → ℕ → Device → List Hearing → List ℕ → Result DeviceStep Refusal
 join_at net_id slot d hearings request =
     if dev_eui_of request == d.dev_eui.0 then join_step d hearings

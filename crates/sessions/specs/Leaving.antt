@@ -1,4 +1,4 @@
--- What a step leaves: a record, and effects.
+-- What a step leaves: a record and effects.
 use Rattle.std.specs.Prelude.{◌≡◌, List, Result, Ok, Err, IfErr}
 use Rattle.std.proofs.Common.{subst, sym}
 use Rattle.lw_types.specs.declared.refusal.Refusal.{Refusal}

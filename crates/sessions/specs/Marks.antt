@@ -1,4 +1,4 @@
--- What has left a network, and that no mark is there twice.
+-- What has left a network, and that no mark left twice.
 use Rattle.std.specs.Prelude.{◌≡◌, ◌≢◌, ◌≤◌, ◌<◌, ◌⊎◌, ℕ, List, [], ◌∷◌, Some, IfSome, All}
 use Rattle.std.specs.Prelude.{slice_get, unwrap_or}
 use Rattle.std.specs.List.{AllByRecursion, filter_map}
@@ -13,7 +13,7 @@ use Rattle.devices.specs.Mark.{mark_of}
 use Rattle.sessions.specs.Index.{HaveOwnSlots}
 use Rattle.sessions.specs.Table.{TableState, slot_of}
 
--- one list is what is left of the other when some of it is dropped
+-- one list is what remains of the other after some elements are dropped
 abbrev pub IsSubsequence : {A : Type 0} → List A → List A → Type 0
 IsSubsequence xs [] = xs ≡ []
 IsSubsequence {A} xs (y ∷ ys) =
@@ -23,7 +23,7 @@ IsSubsequence {A} xs (y ∷ ys) =
 abbrev pub marks_of : List Effect → List Mark
 marks_of effects = filter_map mark_of effects
 
--- no element stands twice
+-- no element occurs twice
 abbrev pub AreDistinct : {A : Type 0} → List A → Type 0
 AreDistinct [] = Unit {0}
 AreDistinct (x ∷ xs) = AllByRecursion (λ y. x ≢ y) xs × AreDistinct xs
@@ -40,8 +40,8 @@ session_in (Forwarded session counter) = session
 session_in (Granted session) = session
 session_in (Sent session counter) = session
 
--- the JoinNonce was granted and its session isn't pending; where it is the current one, this much
--- of it is past
+-- the JoinNonce was granted and its session isn't pending; if it is the current one, `Past` holds
+-- of it
 pub record IsPast (g : Grants) (join_nonce : ℕ) (Past : CurrentSession → Type 0) : Type 0 where
   pub granted : join_nonce ≤ unwrap_or g.granted 0
   pub begun : IfSome g.pending (λ s. s.join_nonce ≢ join_nonce)
@@ -61,12 +61,12 @@ pub record Covers (t : TableState) (m : Mark) : Type 0 where
   pub at : slice_get t.devices slot ≡ Some device
   pub grants : GrantsCover device.activation m
 
--- each DevEUI stands at one slot, and the grants of each device are in order
+-- each DevEUI is at one slot, and the grants of each device are in order
 pub record IsSound (t : TableState) : Type 0 where
   pub own : HaveOwnSlots t.devices
   pub in_order : All (λ d. AreInOrder d.activation) t.devices
 
--- a sound table's network has used up these marks, and none of them twice
+-- a network with this sound table has used up these marks, and none of them twice
 pub record HasUsedUp (t : TableState) (marks : List Mark) : Type 0 where
   pub sound : IsSound t
   pub covered : All (λ m. Covers t m) marks

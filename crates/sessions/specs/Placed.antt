@@ -1,4 +1,4 @@
--- Decisions whose records were moved onto a table.
+-- Decisions whose records were moved into a table.
 use Rattle.std.specs.Prelude.{◌≡◌, List, Result, Ok, Err, IfErr}
 use Rattle.std.proofs.Common.{ap, subst, sym}
 use Rattle.lw_types.specs.declared.refusal.Refusal.{Refusal}

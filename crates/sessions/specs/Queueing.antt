@@ -1,4 +1,4 @@
--- An application queues an item, or MAC commands, for its device (TS001-1.0.4 §4.3.2, §5).
+-- Queueing an item, or MAC commands, for an application's device (TS001-1.0.4 §4.3.2, §5).
 use Rattle.std.specs.Prelude.{◌==◌, ◌&&◌, ◌+◌, ℕ, Bool, nat_lt, if◌then◌else◌, List, [], ◌∷◌, ◌++◌}
 use Rattle.std.specs.Prelude.{Result, Ok, Err, length}
 use Rattle.lw_types.specs.declared.identifiers.Eui.{Eui}
@@ -15,7 +15,7 @@ use Rattle.devices.specs.declared.queue.Item.{Item}
 use Rattle.devices.specs.declared.effect.Report.TheVariants.{Queued, MacQueued}
 use Rattle.uplinks.specs.Accepted.{is_application}
 
--- whether this is the device that an application asks for, and its own
+-- whether this is the device that an application asks for, and belongs to it
 abbrev pub is_theirs : ℕ → Eui → Device → Bool
 is_theirs application dev_eui d = (dev_eui.0 == d.dev_eui.0) && (application == d.application)
 
@@ -24,7 +24,7 @@ is_theirs application dev_eui d = (dev_eui.0 == d.dev_eui.0) && (application == 
 abbrev pub queued_item : Queueing → Item
 queued_item q = record { tag = q.tag; port = q.port; confirmed = q.confirmed; payload = q.payload }
 
--- the item waits behind the others
+-- the item waits after the others
 abbrev pub with_item : Device → Queueing → Device
 with_item d q = record d { items = d.items ++ queued_item q ∷ [] }
 
@@ -49,7 +49,7 @@ queue_at d q = if is_theirs q.application q.dev_eui d then if_short d q else Err
 
 -- ---- MAC commands
 
--- the commands wait behind the others
+-- the commands wait after the others
 abbrev pub with_commands : Device → List ℕ → Device
 with_commands d commands = record d { mac_queue = d.mac_queue ++ commands }
 
@@ -57,7 +57,7 @@ abbrev pub commands_queued : Device → List ℕ → DeviceStep
 commands_queued d commands =
     device_step (with_commands d commands) (report_effects d (MacQueued commands))
 
--- no more bytes wait than a queue has room for
+-- no more bytes wait than the queue has room for
 abbrev pub if_mac_room : Device → List ℕ → Result DeviceStep Refusal
 if_mac_room d commands =
     if nat_lt LONGEST_MAC_QUEUE (length d.mac_queue + length commands)

@@ -1,4 +1,4 @@
--- A table as an older copy of it is restored, after the network went on from the copy.
+-- A table that is restored from an older copy, although the network went on after the copy.
 use Rattle.std.specs.Prelude.{◌≡◌, ◌==◌, ◌≤◌, ℕ, ◌+◌, not, map, max, Option, Some, slice_get}
 use Rattle.std.specs.Prelude.{List, [], ◌∷◌, if◌then◌else◌, unwrap_or}
 use Rattle.std.specs.List.{find}
@@ -17,7 +17,7 @@ restored_table since t = record t { devices = map (restored_device since) t.devi
 abbrev pub spent_device : ℕ → TableState → Option Device
 spent_device since t = find (λ d. not (has_grants_left since d.activation)) t.devices
 
--- the device that this session names counts as granted it
+-- if the session names this device, it counts as granted to it
 abbrev pub raised_by : SessionName → Device → Device
 raised_by s d = if d.dev_eui.0 == s.dev_eui.0 then raised_device s.join_nonce d else d
 
@@ -31,8 +31,7 @@ raised_by_all [] t = t
 raised_by_all (s ∷ sessions) t = raised_by_all sessions (raised_table s t)
 
 -- The mark is of a device that the copy has, and the JoinNonce of its session is at most N above
--- the last one that the copy says was granted. Whatever the mark's counter is, it may have been
--- used.
+-- the copy's last granted one. With any counter, the mark may have been used.
 pub record IsSince (since : ℕ) (t : TableState) (m : Mark) : Type 0 where
   pub slot : ℕ
   pub device : Device
@@ -46,8 +45,8 @@ highest dev_eui [] = 0
 highest dev_eui (s ∷ sessions) =
     max (if s.dev_eui.0 == dev_eui then s.join_nonce else 0) (highest dev_eui sessions)
 
--- The same with a record of sessions beside the copy: the JoinNonce is at most N above the last one
--- that the copy says was granted, or above the highest one that the record has of the device.
+-- The same with a record of sessions beside the copy: the JoinNonce is at most N above the copy's
+-- last granted one, or above the highest one that the record has of the device.
 pub record IsSinceRecord (since : ℕ) (sessions : List SessionName) (t : TableState) (m : Mark)
     : Type 0 where
   pub slot : ℕ

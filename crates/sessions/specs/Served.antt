@@ -23,7 +23,7 @@ use Rattle.sessions.specs.Join.{join_at}
 use Rattle.sessions.specs.declared.served.Served.{Served}
 use Rattle.sessions.specs.declared.served.Served.TheVariants.{Request, Uplink}
 
--- of the frames that there are, the Join-Request and the uplink are served
+-- Join-Requests and uplinks are served, and no other frames
 abbrev pub served_in : List ℕ → Phy → Result Served Refusal
 served_in bytes (JoinRequest request) = Ok (Request bytes)
 served_in bytes (JoinAccept accept) = Err NotServed
@@ -35,12 +35,12 @@ is_request (Ok (Request bytes)) = true
 is_request (Ok (Uplink u)) = false
 is_request (Err refusal) = false
 
--- the frame that these bytes are
+-- the frame of these bytes
 abbrev pub served_frame : List ℕ → Result Served Refusal
 served_frame bytes = phy_at bytes >>= served_in bytes
 
 -- a device that joins sends on one of the first three channels (RP002-1.0.4, EU863-870): the copy
--- that was heard best is on one of these, wherever the others are
+-- that was heard best is on one of these; the channels of the other copies don't matter
 abbrev pub if_on_first_channel : List ℕ → Hearing → Result Served Refusal
 if_on_first_channel bytes best =
     if is_among first_channels best.reception.frequency
@@ -55,31 +55,31 @@ received_by (Some best) (Uplink u) = Ok (Uplink u)
 abbrev pub received_in : Heard → Result Served Refusal
 received_in h = served_frame h.phy_payload >>= received_by (best_of h.hearings)
 
--- a frame that no device sent
+-- the refusal of a frame that no device sent
 abbrev pub unknown_sender : Served → Refusal
 unknown_sender (Request bytes) = UnknownDevEui
 unknown_sender (Uplink u) = UnknownDevAddr
 
--- a frame that was heard so, and the command that it is
+-- a frame that was heard with these copies, and its command
 abbrev pub heard_frame : List ℕ → List Hearing → Heard
 heard_frame phy_payload hearings = record { phy_payload = phy_payload; hearings = hearings }
 
 abbrev pub heard_command : List ℕ → List Hearing → Command
 heard_command phy_payload hearings = command.Heard (heard_frame phy_payload hearings)
 
--- what the device at a slot does of a frame: an uplink is its own only where the address leads to
--- the slot
+-- what a frame does to the device at a slot: an uplink is the device's own only if the address
+-- leads to the slot
 abbrev pub served_at : ℕ → ℕ → Device → List Hearing → Served → Result DeviceStep Refusal
 served_at net_id slot d hearings (Request bytes) = join_at net_id slot d hearings bytes
 served_at net_id slot d hearings (Uplink u) =
     if slot_at u.frame.dev_addr.0
     == slot then uplink_at net_id slot d hearings u else Err UnknownDevAddr
 
--- what the device at a slot does of a frame that was heard
+-- what a heard frame does to the device at a slot
 abbrev pub heard_step : ℕ → ℕ → Device → Heard → Result DeviceStep Refusal
 heard_step net_id slot d h = received_in h >>= served_at net_id slot d h.hearings
 
--- what is done of a frame where no device is: it is refused as any frame is, and then since no
--- device sent it
+-- what a frame does if there is no device: it is refused as any frame is, or else because no device
+-- sent it
 abbrev pub unheard : Heard → Result DeviceStep Refusal
 unheard h = received_in h >>= λ served. Err (unknown_sender served)

@@ -18,18 +18,18 @@ use Rattle.sessions.specs.Queueing.{queue_at, queue_mac_at}
 abbrev pub provisioned_effects : ℕ → Provisioning → List Effect
 provisioned_effects slot p = Report p.application p.dev_eui (Provisioned slot) ∷ []
 
--- What a command does to the record of a slot, or to an empty slot, in a network. Four cases are
--- for the definition to be whole, and no command comes to them in a table: a new device gets the
--- next slot, where no record is, and other commands work at the slot of a device that is there, so
--- that one that is for no device, or from none, is refused before.
+-- What a command does to the record of a slot, or to an empty slot, in a network. Four cases only
+-- make the definition total; no command of a table reaches them. A new device gets the next slot,
+-- which has no record. Other commands change the slot of a known device, so those that are for, or
+-- from, no known device are refused before.
 abbrev pub step1 : ℕ → ℕ → Option Device → Command → Result DeviceStep Refusal
 -- a device is provisioned at an empty slot
 step1 net_id slot None (Provision p) = Ok (device_step (new_device p) (provisioned_effects slot p))
 step1 net_id slot (Some device) (Provision p) = Err DevEuiTaken  -- not reached
--- a frame is of a device that is there
+-- a frame is from a known device
 step1 net_id slot None (Heard h) = unheard h  -- not reached
 step1 net_id slot (Some device) (Heard h) = heard_step net_id slot device h
--- items and MAC commands are queued for a device that is there
+-- items and MAC commands are queued for a known device
 step1 net_id slot None (Queue q) = Err UnknownDevEui  -- not reached
 step1 net_id slot (Some device) (Queue q) = queue_at device q
 step1 net_id slot None (QueueMac q) = Err UnknownDevEui  -- not reached

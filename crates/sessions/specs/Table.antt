@@ -21,7 +21,7 @@ use Rattle.sessions.specs.declared.table.hear.Question.{Question}
 use Rattle.sessions.specs.declared.served.Served.{Served}
 use Rattle.sessions.specs.declared.served.Served.TheVariants.{Request, Uplink}
 
--- a network's devices by slot, and how many slots there are
+-- a network's devices by slot, and the number of slots
 pub record TableState : Type 0 where
   pub net_id : ℕ
   pub slots : ℕ
@@ -48,31 +48,31 @@ abbrev pub new_slot : TableState → Option ℕ → Result ℕ Refusal
 new_slot t (Some taken) = Err DevEuiTaken
 new_slot t None = next_slot t
 
--- the slot of a device that is there
+-- the slot of a known device
 abbrev pub known_slot : Option ℕ → Result ℕ Refusal
 known_slot (Some slot) = Ok slot
 known_slot None = Err UnknownDevEui
 
--- a slot where a device is there
+-- a slot that has a device
 abbrev pub used_slot : ℕ → Option Device → Result ℕ Refusal
 used_slot slot (Some device) = Ok slot
 used_slot slot None = Err UnknownDevAddr
 
--- the slot of the device that sent a frame: that of the DevEUI of a Join-Request, and that to which
--- the address of an uplink leads
+-- the slot of the device that sent a frame: that of a Join-Request's DevEUI, or that to which an
+-- uplink's address leads
 abbrev pub sender_slot : TableState → Served → Result ℕ Refusal
 sender_slot t (Request bytes) = known_slot (slot_of (dev_eui_of bytes) t.devices)
 sender_slot t (Uplink u) =
     used_slot (slot_at u.frame.dev_addr.0) (slice_get t.devices (slot_at u.frame.dev_addr.0))
 
--- this is asked of the join server for the device that sent a Join-Request
+-- the question to the join server for the device that sent a Join-Request
 pub record IsQuestion (t : TableState) (seq : ℕ) (request : List ℕ) (q : Question) : Type 0 where
   pub sender : slot_of (dev_eui_of request) t.devices ≡ Some q.slot
   pub at : slice_get t.devices q.slot ≡ Some q.device.now
   pub is : q.ask ≡ join_ask t.net_id q.slot q.device.now request (transaction_of seq)
 
--- the slot at which a command works: the next one for a new device, else that of the device for
--- which or from which it is
+-- the slot that a command changes: the next one for a new device, otherwise that of the device that
+-- it is for or from
 abbrev pub place_for : TableState → Command → Result ℕ Refusal
 place_for t (Provision p) = new_slot t (slot_of p.dev_eui.0 t.devices)
 place_for t (Heard h) = received_in h >>= sender_slot t
@@ -83,19 +83,19 @@ place_for t (QueueMac q) = known_slot (slot_of q.dev_eui.0 t.devices)
 abbrev pub with_device : ℕ → Device → List Device → List Device
 with_device slot device devices = take slot devices ++ device ∷ drop (suc slot) devices
 
--- the next slot, where there is one, takes a device whose DevEUI no other has
+-- the next slot, if there is one, takes a device whose DevEUI no other device has
 abbrev pub TakesNext : TableState → ℕ → Device → Type 0
 TakesNext t slot device =
     (slot ≡ length t.devices) × (slot < t.slots) × (slot_of device.dev_eui.0 t.devices ≡ None)
 
--- a slot in use takes a record of its own device, and the next slot one of a device that isn't
--- there yet
+-- a slot in use takes a record of its own device, and the next slot takes one of a device that
+-- isn't in the table yet
 abbrev pub CanPlace : TableState → ℕ → Device → Type 0
 CanPlace t slot device =
     MatchOption (slice_get t.devices slot) (TakesNext t slot device)
     (λ old. old.dev_eui ≡ device.dev_eui)
 
--- an image may put a record at a slot in use or at the next one, under a name that no other slot
+-- an image may put a record at a slot in use or at the next one, with a DevEUI that no other slot
 -- has
 abbrev pub CanPut : TableState → ℕ → Device → Type 0
 CanPut t slot device =

@@ -9,18 +9,18 @@ use lw_types::{Ranged, Refusal};
 use std::alloc::Global;
 use std::marker::Model;
 
-/// The decisions of the largest batch.
+/// The number of decisions in the largest batch.
 const LARGEST: u64 = Batch::MOST as u64;
 
-/// How many decisions are asked for at most, from 1 to 64.
+/// The most decisions that a caller asks for, from 1 to 64.
 pub type Most = Ranged<1, LARGEST>;
 
-/// At most 64 decisions, in order, with room for all of them. In contracts it is the list of them.
+/// At most 64 decisions in order, with room for 64. In contracts it is the list of the decisions.
 pub struct Batch {
     decisions: Vec<Decision>,
 }
 
-// By hand, so that its proof is done once: a derived drop is proved anew wherever a value goes.
+// By hand, so that it is proved once: a derived drop is proved again at each use of the type.
 impl Drop for Batch {
     fn drop(self) {
         let Self { decisions: _ } = self;
@@ -68,7 +68,7 @@ impl Batch {
         self.decisions.as_slice()
     }
 
-    /// How many decisions there are.
+    /// The number of decisions.
     pub fn len(&self) -> usize
         ensures len { result ≡ length self.now }
         ensures few { length self.now ≤ 64 }
@@ -76,7 +76,7 @@ impl Batch {
         self.decisions.len()
     }
 
-    /// Whether there are none.
+    /// Whether there are no decisions.
     pub fn is_empty(&self) -> bool
         ensures { IsTrue result ↔ (self.now ≡ []) }
     {

@@ -1,4 +1,4 @@
-// One command, carried out on one device.
+// A command that was carried out on one device.
 ghost use Rattle.std.specs.Prelude.{◌≡◌, Ok};
 ghost use Rattle.devices.specs.DeviceStep.{device_step};
 ghost use Rattle.sessions.specs.Step.{step1};
@@ -7,7 +7,7 @@ use crate::Placed;
 use devices::{Command, Device, Effects};
 use lw_types::NetId;
 
-/// A command, the slot at which it works, the record there before and after it, and its effects.
+/// A command, the slot that it changes, the record there before and after it, and its effects.
 /// Every value of this type is a step: `after` and `effects` are what `command` does to `before`.
 pub struct Decision {
     pub net_id: NetId,
@@ -21,7 +21,7 @@ pub struct Decision {
     pub ghost is_step: { step1 net_id slot before command ≡ Ok (device_step after effects) },
 }
 
-// By hand, so that its proof is done once: a derived drop is proved anew wherever a value goes.
+// By hand, so that it is proved once: a derived drop is proved again at each use of the type.
 impl Drop for Decision {
     fn drop(self) {
         let Self {
@@ -37,7 +37,7 @@ impl Drop for Decision {
 }
 
 impl Decision {
-    /// The record that it leaves, and what is left of it behind that.
+    /// Splits the decision into the record that it leaves and the rest.
     pub fn into_placed(self) -> (Device, Placed)
         ensures record { result.0 ≡ self.after }
         ensures rest { result.1 ≡ self }

@@ -1,4 +1,4 @@
-// A device is granted a session, by the texts of the join server (TS001-1.0.4 §6.2).
+// Granting a device a session, by the texts of the join server (TS001-1.0.4 §6.2).
 ghost use Rattle.std.specs.Prelude.{◌≡◌, ◌<◌, Some, MatchResult, unwrap_or};
 ghost use Rattle.lw_types.specs.Answer.{AnswersWithMemory};
 ghost use Rattle.lw_types.specs.declared.refusal.Refusal.TheVariants.{OutOfMemory};
@@ -23,7 +23,7 @@ use std::alloc::Global;
 // The delay from the end of a Join-Request to RX1, in seconds (TS001-1.0.4 §6.2.6).
 const JOIN_ACCEPT_DELAY1: u64 = 5;
 
-// The question for the device at a slot, which would lead to the decision of this number.
+// The question for the device at a slot. A grant would lead to the decision with this number.
 pub(crate) fn join_ask(
     net_id: NetId,
     slot: u16,
@@ -44,7 +44,7 @@ pub(crate) fn join_ask(
     }
 }
 
-// What the join server keeps of a device.
+// What the join server stores of a device.
 fn join_state(device: &Device) -> JoinState
     ensures { result ≡ join_state device.now }
 {
@@ -73,7 +73,7 @@ pub(crate) fn join(
     }
 }
 
-// The device's record with a session that is granted, and the accept.
+// The device's record with a granted session, and the accept.
 fn grant_to(
     alloc: Global,
     device: &Device,
@@ -90,7 +90,7 @@ fn grant_to(
     Ok((with_session(device.copy()?, state, grant), effects))
 }
 
-// The answer of the join server to a question, by the texts of both.
+// The join server's answer to a question, by the texts of both.
 fn ask_join_server(
     alloc: Global,
     state: &JoinState,
@@ -124,7 +124,7 @@ fn grant_of(join_nonce: JoinNonce, accepted: Accepted) -> JoinGrant
     }
 }
 
-// The question as a text, and the answer read of the text that the join server gives back.
+// Writes the question as a text, and reads the answer from the text that the join server returns.
 fn exchange(
     alloc: Global,
     state: &JoinState,
@@ -139,7 +139,7 @@ fn exchange(
     Ok((read_join_ans(alloc, &answer)?, after))
 }
 
-// What a question has by its types.
+// What holds of a question by its types.
 fn ask_in_range(_ask: JoinAsk)
     ensures { IsAsk _ask }
 {}
@@ -158,7 +158,7 @@ fn cause_refusal(cause: Cause) -> Refusal
     }
 }
 
-// The record with the session that was granted.
+// The record with the granted session.
 fn with_session(mut device: Device, state: &JoinState, grant: &JoinGrant) -> Device
     requires { unwrap_or device.activation.granted 0 < grant.now.join_nonce }
     ensures { result ≡ with_session device (state.now, grant.now) }
@@ -194,7 +194,7 @@ fn accept_effects(
     Ok(effects)
 }
 
-// The Join-Accept as a downlink, in RX1 behind JOIN_ACCEPT_DELAY1, or in RX2.
+// The Join-Accept as a downlink, in RX1 after JOIN_ACCEPT_DELAY1, or in RX2.
 fn accept_downlink(alloc: Global, best: Hearing, frame: &SealedAccept) -> Result<Downlink, Refusal>
     ensures { MatchResult result
         (λ downlink. downlink ≡ accept_downlink best frame.now)

@@ -1,5 +1,5 @@
-//! Laws on the definitions that the contracts of this crate cite. Nothing here is of use but its
-//! contracts.
+//! Laws on the definitions that the contracts of this crate cite. Each is the contract of a
+//! function that has no other use.
 ghost use Rattle.std.specs.Prelude.{◌≡◌, ◌++◌, ◌↔◌, ◌≤◌, ◌+◌, ℕ, List, [], All, IfSome, SomeIff};
 ghost use Rattle.std.specs.Prelude.{length};
 ghost use Rattle.devices.specs.Becoming.{MayBecome};
@@ -19,8 +19,8 @@ ghost use Rattle.sessions.specs.declared.decision.Decision.{Decision};
 
 use crate::{Batch, MOST_SLOTS, Slots};
 
-/// Decisions that continue a table leave the fold of their commands, and their effects are those of
-/// the commands.
+/// Decisions that continue a table leave the fold of their commands, and their effects are the
+/// commands' effects.
 pub fn folding()
     ensures table { (t : TableState) (ds : List Decision) → FitAll t ds →
         fold_of t (commands_of ds) ≡ with_decisions t ds }
@@ -28,8 +28,8 @@ pub fn folding()
         effects_of t (commands_of ds) ≡ effects_in ds }
 {}
 
-/// Two runs of commands, one after the other, leave the table that the second leaves on the table
-/// of the first, and have the effects of both in order.
+/// Two runs of commands, one after the other: the second starts from the table that the first
+/// leaves, and the effects are those of both in order.
 pub fn composing()
     ensures table { (t : TableState) (first second : List Command) →
         fold_of t (first ++ second) ≡ fold_of (fold_of t first) second }
@@ -37,7 +37,8 @@ pub fn composing()
         effects_of t (first ++ second) ≡ effects_of t first ++ effects_of (fold_of t first) second }
 {}
 
-/// A part of a list is one of a longer list too, and with the same behind both.
+/// A part of a list is also a part of that list with more elements after it, and stays one if the
+/// same elements are added after both.
 pub fn parts_of_longer_lists()
     ensures longer { (left whole more : List Effect) → IsSubsequence left whole
         → IsSubsequence left (whole ++ more) }
@@ -45,7 +46,7 @@ pub fn parts_of_longer_lists()
         → IsSubsequence (left ++ more) (whole ++ more) }
 {}
 
-/// Two runs of decisions, one after the other, continue a table where the second continues what the
+/// Two runs of decisions, one after the other, continue a table if the second continues what the
 /// first leaves.
 pub fn joining()
     ensures continues { (t : TableState) (seq : ℕ) (first second : List Decision) →
@@ -56,28 +57,28 @@ pub fn joining()
         with_decisions t (first ++ second) ≡ with_decisions (with_decisions t first) second }
 {}
 
-/// The record of a decision that was made of a table may be put there as an image has it.
+/// The record that a decision leaves may be put into the table that it was made of, at its slot, as
+/// an image may put one.
 pub fn decided_records_may_be_put()
     ensures { (t : TableState) (d : Decision) → FitsTable t d → CanPut t d.slot d.after }
 {}
 
-/// The record that a decision leaves is one that its device may have after the record that it
-/// found.
+/// The record that a decision leaves may follow the record that it found.
 pub fn a_decision_is_a_step()
     ensures { (d : Decision) → IfSome d.before (λ before. MayBecome before d.after) }
 {}
 
-/// The decisions that continue a table can be taken back from what they leave: the records that
-/// they found are those of the table.
+/// Decisions that continue a table can be undone from the table that they leave: the records that
+/// they found are the table's.
 pub fn taking_back()
     ensures { (t : TableState) (ds : List Decision) → FitAll t ds
         → without_decisions (with_decisions t ds) ds ≡ t }
 {}
 
-/// No mark is used up twice by the effects of commands, where the table is sound: a session that is
-/// pending under a JoinNonce that isn't the last one granted would be granted, and used, again.
-/// Commands use up none of the marks that a network has used up before, which is none at first. And
-/// of effects that use up marks once, a part does.
+/// On a sound table, the effects of commands use up no mark twice. On an unsound one they might: if
+/// the pending session's JoinNonce isn't the last granted one, it would be granted, and used,
+/// again. Commands use up no mark that the network has used up before; a new network has used up
+/// none. If effects use up no mark twice, neither does a part of them.
 pub fn no_mark_stands_twice()
     ensures commands { (t : TableState) (commands : List Command) → IsSound t
         → AreOnce (effects_of t commands) }
@@ -97,8 +98,9 @@ pub fn no_mark_stands_twice()
 }
 
 /// A restored table covers each mark of a device that the copy has, if the mark's JoinNonce is at
-/// most `since` above the last one that the copy says was granted. So a network that has used up
-/// such marks, none of them twice, goes on with it.
+/// most `since` above the copy's last granted one. The restored table is sound if each device of
+/// the copy is found at its own slot. So a network that has used up such marks, none of them twice,
+/// can go on with it.
 pub fn a_restored_table_covers()
     ensures covered { (since : ℕ) (t : TableState) (marks : List Mark) →
         All (λ m. IsSince since t m) marks → All (λ m. Covers (restored_table since t) m) marks }
@@ -106,11 +108,12 @@ pub fn a_restored_table_covers()
         → IsSound (restored_table since t) }
 {}
 
-/// A record of sessions beside a copy may stand for what the copy lacks. If these sessions are
-/// counted as granted before the copy is restored, the restored table covers each mark whose
-/// JoinNonce is at most `since` above the copy's last one or above the highest one on record, of
-/// its device. So earlier restores of the network don't count against `since` if they are on
-/// record.
+/// A record of sessions beside a copy can make up for what is missing in the copy. Take a mark of a
+/// device that the copy has, with a JoinNonce at most `since` above the copy's last granted one or
+/// above the highest one on record of the device. After the sessions on record are counted as
+/// granted, its JoinNonce is at most `since` above the last granted one. So the restored table
+/// covers it ([`a_restored_table_covers`]). And each device that was found at its own slot still
+/// is. So earlier restores of the network don't count against `since` if they are on record.
 pub fn a_record_raises_a_copy()
     ensures within { (since : ℕ) (sessions : List SessionName) (t : TableState) (marks : List Mark)
         → All (λ m. IsSinceRecord since sessions t m) marks

@@ -1,6 +1,7 @@
-//! The table of a network's devices, and decisions: commands carried out on one device each.
+//! The table of a network's devices, and decisions: commands that were carried out on one device
+//! each.
 //!
-//! A [`Decision`] can be made by nobody but a step of its own record: its type keeps that `after`
+//! A [`Decision`] can only be made by a step of its own record: its type guarantees that `after`
 //! and `effects` are what the command does to `before`.
 #![tactic(auto)]
 

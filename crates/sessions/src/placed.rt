@@ -1,4 +1,4 @@
-// What is left of decisions whose records were moved onto a table.
+// Decisions without their records, which were moved into a table.
 ghost use Rattle.std.specs.Prelude.{◌≡◌, Ok};
 ghost use Rattle.sessions.specs.Step.{step1};
 ghost use Rattle.sessions.specs.Leaving.{effects_left};
@@ -8,7 +8,7 @@ use lw_types::NetId;
 use std::marker::Model;
 
 /// A decision whose record was moved into its slot of a table. The record is the one that its
-/// command makes of the record before, so in contracts this is the whole decision.
+/// command makes of the record before. So in contracts this is still the whole decision.
 pub struct Placed {
     pub(crate) net_id: NetId,
     pub(crate) seq: u64,
@@ -19,7 +19,7 @@ pub struct Placed {
     ghost is_step: { effects_left (step1 net_id slot before command) ≡ Ok effects },
 }
 
-// By hand, so that its proof is done once: a derived drop is proved anew wherever a value goes.
+// By hand, so that it is proved once: a derived drop is proved again at each use of the type.
 impl Drop for Placed {
     fn drop(self) {
         let Self {
@@ -43,7 +43,7 @@ impl Model for Placed {
 }
 
 impl Placed {
-    /// Its effects, and nothing else of it.
+    /// Its effects; the rest is dropped.
     pub fn into_effects(self) -> Effects
         ensures { result ≡ self.effects }
     {

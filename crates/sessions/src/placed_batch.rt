@@ -1,4 +1,4 @@
-// A batch whose records were moved onto a table.
+// A batch whose records were moved into a table.
 ghost use Rattle.std.specs.Prelude.{◌≡◌, ◌≤◌, ◌<◌, [], ◌∷◌, ◌++◌, length, MatchResult};
 ghost use Rattle.lw_types.specs.declared.refusal.Refusal.TheVariants.{OutOfMemory};
 ghost use Rattle.sessions.specs.Decision.{FitAll, with_decisions};
@@ -8,13 +8,13 @@ use lw_types::Refusal;
 use std::alloc::Global;
 use std::marker::Model;
 
-/// The decisions of a batch whose records were moved onto a table, in order, with room for 64. In
+/// The decisions of a batch whose records were moved into a table, in order, with room for 64. In
 /// contracts it is the list of the whole decisions.
 pub struct PlacedBatch {
     decisions: Vec<Placed>,
 }
 
-// By hand, so that its proof is done once: a derived drop is proved anew wherever a value goes.
+// By hand, so that it is proved once: a derived drop is proved again at each use of the type.
 impl Drop for PlacedBatch {
     fn drop(self) {
         let Self { decisions: _ } = self;
@@ -51,7 +51,7 @@ impl PlacedBatch {
         pushed.unwrap();
     }
 
-    /// How many decisions there are.
+    /// The number of decisions.
     pub fn len(&self) -> usize
         ensures len { result ≡ length self.now }
         ensures few { length self.now ≤ 64 }
@@ -70,9 +70,8 @@ impl PlacedBatch {
 }
 
 impl Table {
-    /// Moves the records that a batch leaves into their slots, and what is left of its decisions
-    /// into this room. Takes no memory, copies no record, and its cost doesn't grow with the number
-    /// of devices.
+    /// Moves the records of a batch into their slots, and the rest of its decisions into this room.
+    /// Takes no memory and copies no record. Its cost doesn't grow with the number of devices.
     pub fn place_all(&mut self, batch: Batch, room: PlacedBatch) -> PlacedBatch
         requires fit { FitAll self.old batch }
         requires empty { room ≡ [] }

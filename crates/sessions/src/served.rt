@@ -5,7 +5,7 @@ ghost use Rattle.sessions.specs.Served.{is_request};
 use join_server::JoinRequestBytes;
 use uplinks::Uplink;
 
-// A frame from a device, over the bytes of which it was read.
+// A frame from a device, which refers to the bytes it was read from.
 #[derive(Drop)]
 pub(crate) enum Served<'a> {
     Request(JoinRequestBytes),

@@ -22,8 +22,9 @@ pub const MOST_SLOTS: u64 = 4096;
 /// The number of slots of a table, from 1 to 4,096.
 pub type Slots = Ranged<1, MOST_SLOTS>;
 
-/// A network's devices by slot, and an index of their DevEUIs. All its room is got when it is made,
-/// so that a device that is placed takes no memory. A look-up's cost doesn't grow with the devices.
+/// A network's devices by slot, and an index of their DevEUIs. All its room is reserved when it is
+/// made, so placing a device takes no memory. The cost of a look-up doesn't grow with the number of
+/// devices.
 pub struct Table {
     alloc: Global,
     net_id: NetId,
@@ -32,7 +33,7 @@ pub struct Table {
     index: HashMap<u64, u16>,
 }
 
-// By hand, so that its proof is done once: a derived drop is proved anew wherever a value goes.
+// By hand, so that it is proved once: a derived drop is proved again at each use of the type.
 impl Drop for Table {
     fn drop(self) {
         let Self {
@@ -82,14 +83,14 @@ impl Table {
         self.net_id
     }
 
-    /// How many slots there are.
+    /// The number of slots.
     pub fn slots(&self) -> Slots
         ensures { result ≡ self.now.slots }
     {
         self.slots
     }
 
-    /// The devices in order of slot. No two have one DevEUI.
+    /// The devices in order of their slots. No two have the same DevEUI.
     pub fn devices(&self) -> &[Device]
         ensures devices { result.now ≡ self.now.devices }
         ensures few { length self.now.devices ≤ self.now.slots }
@@ -105,15 +106,15 @@ impl Table {
         self.index.get(&dev_eui.0).copied()
     }
 
-    // Each device is found at its own slot, so no two have one DevEUI.
+    // Each device is found at its own slot, so no two have the same DevEUI.
     pub(crate) fn devices_are_apart(&self)
         ensures { HaveOwnSlots self.now.devices }
     {
         let _ = &self.index;
     }
 
-    /// Puts a record at a slot: of its own device at a slot in use, of a new device at the next
-    /// slot. Takes no memory.
+    /// Puts a record at a slot: at a slot in use a record of its own device, at the next slot one
+    /// of a new device. Takes no memory.
     pub fn place(&mut self, slot: u16, device: Device)
         requires { CanPlace self.old slot device }
         ensures { self.new ≡ with_record self.old slot device }
@@ -130,7 +131,7 @@ impl Table {
         }
     }
 
-    /// The same table, in memory of its own. Its cost grows with the number of devices.
+    /// The same table in newly allocated memory. Its cost grows with the number of devices.
     pub fn copy(&self) -> Result<Self, Refusal>
         ensures { MatchResult result (λ t. t ≡ self.now) (λ e. e ≡ OutOfMemory) }
     {
@@ -152,9 +153,9 @@ impl Table {
         })
     }
 
-    /// Puts a record at a slot as an image of a store has it: at a slot in use or the next one,
-    /// under a DevEUI that no other slot has. Refused with `Damaged` exactly where that doesn't
-    /// hold, and with `OutOfMemory` for want of memory. A refusal changes nothing.
+    /// Puts a record at a slot as an image of a store says: at a slot in use or the next one, with
+    /// a DevEUI that no other slot has. Refused with `Damaged` exactly if that doesn't hold, and
+    /// with `OutOfMemory` if memory runs out. A refusal changes nothing.
     pub fn put(&mut self, slot: u16, device: Device) -> Result<(), Refusal>
         ensures { MatchResult result
             (λ _. CanPut self.old slot device × (self.new ≡ with_record self.old slot device))
@@ -175,8 +176,8 @@ impl Table {
         Ok(())
     }
 
-    // Puts a record of a device that isn't there yet into a slot in use, in the place of another
-    // device's. After an `Err`, which is want of memory, the table is as before.
+    // Replaces the device at a slot in use by a device that isn't in the table yet. After an `Err`,
+    // which is out of memory, the table is unchanged.
     fn rename(&mut self, slot: u16, device: Device) -> Result<(), Refusal>
         requires used { slot < length self.old.devices }
         requires new_name { slot_of device.dev_eui.0 self.old.devices ≡ None }

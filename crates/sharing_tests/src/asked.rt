@@ -1,4 +1,4 @@
-// What comes to a core in these tests. The frames were made by a device that is none of ours
+// What comes to a core in these tests. The frames were made by a device that isn't ours
 // (examples/outside).
 ghost use Rattle.std.specs.Prelude.{◌≡◌, IfOk};
 

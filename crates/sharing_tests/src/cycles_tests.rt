@@ -22,7 +22,7 @@ use store::{Store, format, open};
 // The devices: each of the twenty batches has a decision of each.
 const DEVICES: u64 = 64;
 
-// A disk whose calls fail once so many were made.
+// A disk whose calls fail once this number of them were made.
 #[derive(Drop)]
 struct Failing<D: Disk> {
     disk: D,
@@ -31,7 +31,7 @@ struct Failing<D: Disk> {
 }
 
 impl<D: Disk> Failing<D> {
-    // One call: whether it may go on. (The disk is given up long before its failures have 64 bits.)
+    // One call: whether it may go on. (The disk is dropped long before its failures have 64 bits.)
     fn count(&mut self) -> Result<(), DeviceFailed>
         ensures cause { HasCause self.old.failures self.new.failures result }
         ensures disk { self.new.disk ≡ self.old.disk }
@@ -52,7 +52,7 @@ impl<D: Disk> Disk for Failing<D> {
 
     ghost outlook = { λ _. Unknown };
 
-    // What it holds is of no interest here.
+    // What it holds doesn't matter here.
     ghost honest = { ⊥ };
 
     fn len(&self) -> u64 {
@@ -75,7 +75,7 @@ impl<D: Disk> Disk for Failing<D> {
     }
 }
 
-// The item of the most bytes there are.
+// The largest item, in bytes.
 fn long_item(alloc: Global, dev_eui: u64) -> Result<Queueing, Refusal> {
     let payload = AskedBytes::new(vec![in alloc; 0xA5; 242]?);
     Ok(Queueing {
@@ -88,8 +88,8 @@ fn long_item(alloc: Global, dev_eui: u64) -> Result<Queueing, Refusal> {
     })
 }
 
-// What is asked for each device in a batch: it is provisioned, sixteen items are queued for it, and
-// MAC commands.
+// What each device of a batch gets: it is provisioned, sixteen items are queued for it, and MAC
+// commands.
 fn ask(alloc: Global, core: &mut Core, round: u64, dev_eui: u64) -> Result<(), Refusal> {
     let at = moment(0)?;
     let turn = match round {
@@ -120,7 +120,7 @@ fn batches(alloc: Global, count: u64) -> Result<StoredBatches, Refusal> {
     Ok(StoredBatches::new(alloc, all))
 }
 
-// How serving ends, and how many effects have left.
+// How serving ends, and the number of effects that have left.
 fn served<R: Wait, D: Disk>(
     rt: &R,
     alloc: Global,
@@ -149,7 +149,7 @@ fn reopened<R: Files<File = File>>(
     Ok((store.seq(), store.table().devices().len()))
 }
 
-// All batches are committed, and are there again.
+// All batches are committed, and are found again.
 fn serve_all<R: Wait + Files<File = File>>(
     rt: &R,
     alloc: Global,
@@ -173,8 +173,8 @@ fn twenty_batches_are_served(rt: HostRuntime) {
 // The calls of the disk that make a store.
 const FORMATTING: u64 = 8;
 
-// So many calls of serving succeed, and the next one fails: how serving ends, how many effects have
-// left, and the number of the store in the file.
+// This number of calls of serving succeed, and the next one fails: how serving ends, the number of
+// effects that have left, and the number of the store in the file.
 fn serve_until<R: Wait + Files<File = File>>(
     rt: &R,
     alloc: Global,

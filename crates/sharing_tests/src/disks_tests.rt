@@ -1,4 +1,4 @@
-// A disk in memory and one in a file are asked the same; and what a file alone does.
+// A disk in memory and one in a file get the same calls; and what only a file does.
 ghost use Rattle.std.specs.Prelude.{◌≡◌, ◌+◌, ◌≤◌, length, IsTrue};
 
 use crate::files::{path_of, remove};
@@ -12,7 +12,7 @@ use std::rt::Files;
 // The length of the disks, which is more than is written to a new file at a time.
 const LEN: u64 = 100_000;
 
-// What is asked, in turn: these bytes are written from a position on, or they have to be there.
+// The calls, in turn: these bytes are written from a position on, or they have to be there.
 #[derive(Clone, Copy)]
 enum Call {
     Write(u64, &'static [u8]),
@@ -48,7 +48,7 @@ fn does<D: Disk>(disk: &mut D) -> Result<bool, DeviceFailed> {
     Ok(disk.len() == LEN)
 }
 
-// Whether so many bytes from there on lie on the disk.
+// Whether this number of bytes from there on lie on the disk.
 fn is_within<D: Disk>(disk: &D, at: u64, len: usize) -> bool
     ensures { IsTrue result → at + len ≤ length (D.state disk.now).content }
 {
@@ -83,7 +83,7 @@ fn in_memory(alloc: Global) -> io::Result<bool> {
     Ok(does(&mut disk) == Ok(true))
 }
 
-// In a new file, which then is another disk with what the first one wrote.
+// In a new file, which is then another disk with what the first one wrote.
 fn in_a_file<R: Files<File = File>>(rt: &R, path: &str) -> io::Result<bool> {
     let mut disk = FileDisk::create(rt, path, LEN)?;
     let is_so = does(&mut disk) == Ok(true);

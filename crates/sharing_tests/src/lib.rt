@@ -1,5 +1,5 @@
-//! Tests of what threads share: a core behind a lock, rings of effects, a flusher's cycles over a
-//! file, and the file itself. They stand above those crates, so that each of these is proved once.
+//! Tests of what threads share: a core with a lock, rings of effects, a flusher's cycles over a
+//! file, and the file itself. This crate stands above theirs, so that each of those is proved once.
 #![tactic(auto)]
 
 #[cfg(test)]

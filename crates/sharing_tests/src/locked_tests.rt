@@ -29,14 +29,14 @@ enum Event {
 }
 
 // At a moment this comes: the decisions made before and after it in this life, and the refusal; and
-// where there is a decision, the tags of the items in the record that it found.
+// if there is a decision, the tags of the items in the record that it found.
 type Row = (u64, Event, (u64, u64, Option<Refusal>), &'static [u32]);
 
 const CHANNEL: u32 = 868_100_000;
 
-// A device is provisioned, once; items are queued for it, the second behind the first; and MAC
+// A device is provisioned, once; items are queued for it, the second after the first; and MAC
 // commands. It joins. Its first uplink is heard at 0, 199 and 200 ms: the third copy opens a window
-// of its own, and is a repeat. (The outcomes tell.)
+// of its own, and is a repeat. (The outcomes show that.)
 const DEVICE: &[Row] = &[
     (0, Event::Provision(JOINER), (0, 1, None), &[]),
     (
@@ -91,7 +91,7 @@ const WINDOWS: &[Row] = &[
     (400, Event::Tick, (0, 0, None), &[]),
 ];
 
-// The rows, what comes of their commands, and how many decisions there are.
+// The rows, the outcome of their commands, and the number of decisions.
 fn script_of(script: u8) -> (&'static [Row], &'static [Outcome], u64) {
     match script {
         0 => (DEVICE, DECIDED, 6),
@@ -153,7 +153,7 @@ fn locked_answer<B: Books, R: Wait>(
     }
 }
 
-// What an application asks for by an event.
+// An application's request, as an event.
 fn asked(alloc: Global, event: &Event) -> Result<Option<ApplicationCommand>, Refusal> {
     Ok(match event {
         Event::Provision(dev_eui) => {
@@ -217,7 +217,7 @@ fn are_tagged(items: &[Item], tags: &[u32]) -> bool {
     same
 }
 
-// A life of a core and one behind a lock, with one seat.
+// A life of a core and one with a lock, with one seat.
 #[derive(Drop)]
 struct Lives<'a, B: Books> {
     alloc: Global,
@@ -225,13 +225,13 @@ struct Lives<'a, B: Books> {
     sessions: &'a Mutex<Shared<B>>,
     seat: &'a mut Seat<B>,
     taker: &'a mut Taker<B>,
-    // Whether applications ask by the one call for all that they ask.
+    // Whether applications use the one call for all their requests.
     asks: bool,
 }
 
 impl<B: Books> Lives<'_, B> {
-    // What is answered in the place of what the row has, where both don't answer so, or don't know
-    // the same of moments and numbers then, or the seat has another last call.
+    // The answer through the lock, if not both answers are the row's, or if the two don't agree on
+    // moments and numbers then, or the seat has another last call.
     fn fault<R: Wait>(&mut self, rt: &R, row: &Row) -> Result<Option<String>, Refusal> {
         let (at, event, wanted, _) = row;
         let at = moment(*at)?;
@@ -257,7 +257,7 @@ impl<B: Books> Lives<'_, B> {
         Ok(Some(format!(in self.alloc; "{from} {to} {refused:?}")?))
     }
 
-    // What both give, at most 64 decisions, where they give the same.
+    // What both return, at most 64 decisions, if they return the same.
     fn take<R: Wait>(&mut self, rt: &R) -> Result<Option<Batch>, Refusal> {
         let most = Most::new(64).ok_or(Refusal::Damaged)?;
         let decided = self.core.take(most)?;
@@ -265,7 +265,7 @@ impl<B: Books> Lives<'_, B> {
         Ok(if same { Some(decided) } else { None })
     }
 
-    // Whether both give the same, and the first of it found items of these tags.
+    // Whether both return the same, and the first decision of it found items of these tags.
     fn gives<R: Wait>(&mut self, rt: &R, tags: &[u32]) -> Result<bool, Refusal> {
         match self.take(rt)? {
             Some(batch) => Ok(found(&batch, tags)),
@@ -273,8 +273,8 @@ impl<B: Books> Lives<'_, B> {
         }
     }
 
-    // What is seen otherwise, a line a row, where what is decided is taken behind each, or behind
-    // the last.
+    // What differs, one line for each row, if the decisions are taken after each row, or after the
+    // last.
     fn wrong<R: Wait>(&mut self, rt: &R, rows: &[Row], each: bool) -> Result<String, Refusal> {
         let mut wrong = String::new(self.alloc);
         for (number, row) in rows.iter().enumerate() {
@@ -291,7 +291,8 @@ impl<B: Books> Lives<'_, B> {
         Ok(wrong)
     }
 
-    // What came of the commands, where both say the same; and how many decisions each share has.
+    // The outcome of the commands, if both have the same; and the number of decisions of each
+    // share.
     fn end<R: Wait>(&self, rt: &R, wanted: &[Outcome], shares: u64) -> Result<bool, Refusal> {
         let outcomes = self.sessions.outcomes(rt, self.alloc)?;
         let noted = self.core.outcomes().to_vec(self.alloc)?;

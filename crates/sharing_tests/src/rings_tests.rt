@@ -1,4 +1,4 @@
-// What is put into a ring comes out in order, once; a full ring gives it back.
+// What is put into a ring comes out in order, once; a full ring returns it.
 ghost use Rattle.std.specs.Prelude.{IfSome};
 ghost use Rattle.outbox.specs.Ring.{Ends, SameInlet, SameOutlet};
 ghost use Rattle.outbox.specs.declared.ends.Outlet.{Outlet};
@@ -16,10 +16,11 @@ use std::thread;
 use std::thread::{Threads, join};
 use store::Store;
 
-// How often a thread looks again before it gives up.
+// The number of times that a thread looks again before it gives up.
 const TURNS: u32 = 1_000_000;
 
-// The effects of so many provisionings, which are durable: the devices have the slots from 0 on.
+// The effects of this number of provisionings, which are durable: the devices have the slots from 0
+// on.
 fn released(alloc: Global, count: u16) -> Result<Vec<Released>, Refusal> {
     let mut store = new_store(alloc, 2048)?;
     let mut core = new_core(alloc, 2048)?;
@@ -55,7 +56,7 @@ fn release_some(
     }
 }
 
-// Whether the effect tells that a device has this slot.
+// Whether the effect reports that a device has this slot.
 fn is_of(effect: &Effect, wanted: u16) -> bool {
     match effect {
         Effect::Report { report, .. } => *report == Report::Provisioned { slot: wanted },
@@ -63,7 +64,8 @@ fn is_of(effect: &Effect, wanted: u16) -> bool {
     }
 }
 
-// Takes the effects that are there: the slot behind the last, where they come in order from one on.
+// Takes the effects that are in the ring. Returns the slot after the last one, if they come in
+// order from one on.
 fn taken_in_order(inlet: &mut Inlet, first: u16) -> Option<u16>
     ensures { SameInlet inlet.old inlet.new }
 {
@@ -78,8 +80,8 @@ fn taken_in_order(inlet: &mut Inlet, first: u16) -> Option<u16>
     None
 }
 
-// What becomes of more effects than a ring has places for: how many it takes, whether the next one
-// comes back as it was, how many are taken in order, and whether the ring is drained then and ends
+// The outcome of more effects than a ring has places for: how many it takes, whether the next one
+// is returned as it was, how many are taken in order, and whether the ring is drained then and ends
 // so.
 fn overfill(alloc: Global, places: u16) -> Result<(u16, bool, Option<u16>, bool), Refusal> {
     let (mut outlet, mut inlet) = ring(alloc, usize::from(places))?;
@@ -110,7 +112,7 @@ fn a_full_ring_gives_back(rt: HostRuntime) {
     }
 }
 
-// Puts them all, in order. `None` where there was no room in time.
+// Puts them all, in order. `None` if there was no room in time.
 fn put_all(outlet: Outlet, all: Vec<Released>) -> Option<Outlet>
     ensures { IfSome result (λ last. SameOutlet outlet last) }
 {
@@ -123,7 +125,7 @@ fn put_all(outlet: Outlet, all: Vec<Released>) -> Option<Outlet>
     Some(outlet)
 }
 
-// Puts one. Whether there was room in time.
+// Puts one. Returns whether there was room in time.
 fn put_in_time(outlet: &mut Outlet, released: Released) -> bool
     ensures { SameOutlet outlet.old outlet.new }
 {
@@ -145,7 +147,8 @@ fn put_and_finish(outlet: Outlet, all: Vec<Released>) -> Option<Ended>
     put_all(outlet, all)?.finish()
 }
 
-// Takes effects until so many were taken or there are no more. How many, where they come in order.
+// Takes effects until this number were taken or there are no more. Returns their number, if they
+// come in order.
 fn take_some(inlet: Inlet, most: u16) -> (Inlet, Option<u16>)
     ensures { SameInlet inlet result.0 }
 {
@@ -166,8 +169,8 @@ fn take_some(inlet: Inlet, most: u16) -> (Inlet, Option<u16>)
     (inlet, Some(next))
 }
 
-// One thread puts so many effects and says that there are no more, and another takes them until
-// there are none: how many are taken in order, and whether the ring is drained then.
+// One thread puts this number of effects and says that there are no more, and another takes them
+// until none are left: the number that are taken in order, and whether the ring is drained then.
 fn pass<R: Threads + Sync>(
     rt: &R,
     alloc: Global,
@@ -196,9 +199,9 @@ fn a_ring_passes_effects_between_threads(rt: HostRuntime) {
     assert!(rt; pass(&rt, rt.alloc(), 2000) == Ok(Some((2000, true))));
 }
 
-// One thread puts so many effects, and another takes all but the last few; then both ends stand in
-// one: whether the ring is drained once nothing more is put, how many were taken in order when the
-// others are, and whether it is drained then.
+// One thread puts this number of effects, and another takes all except the last few; then both ends
+// are in one thread: whether the ring is drained once nothing more is put, how many were taken in
+// order when the others are, and whether it is drained then.
 fn pass_all_but<R: Threads + Sync>(
     rt: &R,
     alloc: Global,

@@ -5,7 +5,7 @@ use sessions::Slots;
 use std::alloc::Global;
 use store::{Store, disk_len, format};
 
-/// The length of the disk of a store with so many slots.
+/// The length of the disk of a store with this number of slots.
 pub fn len_of(slots: u64) -> Result<u64, Refusal> {
     Ok(disk_len(Slots::new(slots).ok_or(Refusal::Damaged)?))
 }

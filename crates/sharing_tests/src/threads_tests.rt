@@ -27,7 +27,7 @@ fn provision_all<B: Books, R: Wait>(
     Ok(seat)
 }
 
-// How many decisions two seats made, where both come back.
+// The number of decisions that two seats made, if both are returned.
 fn two_make<B: Books + Send + Sync, R: Threads + Wait + Sync>(
     rt: &R,
     alloc: Global,

@@ -1,4 +1,4 @@
-// What names a frame that was refused.
+// The name of a frame that was refused.
 ghost use Rattle.std.specs.Prelude.{◌≡◌, IfOk};
 ghost use Rattle.phy_payload.specs.Reading.{phy_at};
 ghost use Rattle.sights.specs.Named.{said_name};
@@ -7,19 +7,19 @@ use lw_types::{DevAddr, Eui};
 use phy_payload::{PhyRef, read_phy};
 use std::alloc::{AllocError, Global};
 
-/// What a frame says of itself. Its MIC isn't looked at, so whoever sent it may have lied.
+/// What a frame says about its sender. Its MIC isn't checked, so it may be false.
 #[derive(Clone, Copy, Debug, PartialEq, Eq)]
 pub enum FrameName {
     /// A Join-Request (TS001-1.0.4 §6.2.5).
     JoinRequest { dev_eui: Eui, dev_nonce: u16 },
-    /// A data frame (TS001-1.0.4 §4.3.1): its address, and the 16 bits of its counter.
+    /// A data frame (TS001-1.0.4 §4.3.1): its address, and the low 16 bits of its counter.
     Data { dev_addr: DevAddr, f_cnt: u16 },
     /// Neither.
     Other,
 }
 
 impl FrameName {
-    /// What the frame with this PHYPayload says. Takes no memory.
+    /// The name of the frame with this PHYPayload. Takes no memory.
     pub fn of(phy_payload: &[u8]) -> Self
         ensures { result ≡ said_name (phy_at phy_payload.now) }
     {
@@ -36,7 +36,7 @@ impl FrameName {
         }
     }
 
-    /// The words that a line has for it.
+    /// The words for it in a line.
     pub(crate) fn words(self, alloc: Global) -> Result<String, AllocError> {
         match self {
             FrameName::JoinRequest { dev_eui, dev_nonce } => {

@@ -1,4 +1,4 @@
-// How each device was heard last.
+// How each device was last heard.
 ghost use Rattle.std.specs.Prelude.{◌≡◌, IfErr, IfOk, length};
 ghost use Rattle.lw_types.specs.declared.refusal.Refusal.TheVariants.{OutOfMemory};
 
@@ -10,7 +10,7 @@ use session_core::{ClosedFrame, Moment};
 use sessions::Slots;
 use std::alloc::{AllocError, Global};
 
-// An uplink that was accepted, as the gateway that heard it best did.
+// An accepted uplink, at the gateway that heard it best.
 #[derive(Clone, Copy, PartialEq, Eq)]
 struct LastUplink {
     moment: Moment,
@@ -24,7 +24,7 @@ pub struct LastUplinks {
 }
 
 impl LastUplinks {
-    /// No device was heard yet. All the memory that it ever takes is taken here, 40 bytes a slot.
+    /// No device was heard yet. All the memory that it ever needs is taken here: 40 bytes a slot.
     pub fn new(alloc: Global, slots: Slots) -> Result<Self, Refusal>
         ensures slots { IfOk result (λ last. length last.by_slot.items ≡ slots) }
         ensures refused { IfErr result (λ e. e ≡ OutOfMemory) }
@@ -34,9 +34,9 @@ impl LastUplinks {
         Ok(LastUplinks { by_slot })
     }
 
-    /// A frame's window was closed at this moment. Where it was an uplink that was accepted, its
+    /// Notes a frame whose window was closed at this moment. If it was an accepted uplink, its
     /// device is the one at the slot of its address. What was noted of a later moment stays, since
-    /// threads note one beside another.
+    /// several threads note uplinks.
     pub fn note(&mut self, closed: &ClosedFrame, moment: Moment) {
         if closed.refused.is_some() {
             return;
@@ -55,10 +55,10 @@ impl LastUplinks {
         }
     }
 
-    /// The list of the devices ([`list_text`]), each line with four words more: the moment of the
-    /// device's last uplink, the gateway that heard it best, SNR in quarter dB and RSSI in dBm; a
-    /// `-` for each where none came in this life. The last line has no more words. Refused with
-    /// `OutOfMemory` for want of memory.
+    /// The list of the devices ([`list_text`]). Each line has four more words: the moment of the
+    /// device's last uplink, the gateway that heard it best, SNR in quarter dB and RSSI in dBm.
+    /// Each is `-` if no uplink came in this life. The last line has no more words. Refused with
+    /// `OutOfMemory` if memory runs out.
     pub fn list(&self, alloc: Global, devices: &[Device], seq: u64) -> Result<String, Refusal> {
         let listed = list_text(alloc, devices, seq)?;
         let mut lasts = self.by_slot.iter();
@@ -77,7 +77,7 @@ impl LastUplinks {
     }
 }
 
-// The words behind a line of the list, with a space before each.
+// The words after a line of the list, with a space before each.
 fn last_words(alloc: Global, last: Option<LastUplink>) -> Result<String, AllocError> {
     let Some(LastUplink { moment, reception }) = last else {
         return String::from_str(alloc, " - - - -");

@@ -1,5 +1,5 @@
-//! What whoever operates a server is told of it, beside what applications are: a line for each
-//! thing that happens, and how each device was heard last. No decision depends on it.
+//! What operators see, besides what applications receive: a line for each event, and how each
+//! device was last heard. No decision depends on it.
 #![tactic(auto)]
 
 mod frame_name;

@@ -1,4 +1,4 @@
-// What an operator who watches is told.
+// The events that an operator who watches is sent.
 use crate::FrameName;
 use devices::{Effect, SessionName};
 use gateway_wire::Recipient;
@@ -6,40 +6,40 @@ use lw_types::{Eui, Reception, Refusal};
 use session_core::ClosedFrame;
 use std::alloc::{AllocError, Global};
 
-/// Something that an operator may ask about when it doesn't happen, or when it does.
+/// An event that operators may want to know of.
 #[derive(Clone, Copy, PartialEq, Eq)]
 pub enum Sight {
-    /// A frame was refused, or a copy of one; here is how the gateway that heard it best did.
+    /// A frame, or a copy of one, was refused. `reception` is the best one.
     Refused {
         refusal: Refusal,
         frame: FrameName,
         reception: Reception,
     },
-    /// A device joined: its accept is durable, and leaves by this gateway.
+    /// A device joined: its accept is durable and leaves by this gateway.
     Joined {
         session: SessionName,
         gateway: Eui,
     },
     /// A link greeted.
     Linked(Recipient),
-    /// A link lost its name to one that greeted later.
+    /// A link lost its name to a later link.
     TakenOver(Recipient),
     /// A link ended.
     Ended(Recipient),
-    /// A link was read no further because of what it said, after its greeting or before.
+    /// A link is read no further because of what it sent, after its greeting or before.
     Faulted(Option<Recipient>),
-    /// A link hadn't greeted in time.
+    /// A link didn't greet in time.
     Silent,
-    /// So many effects weren't sent that were for this name.
+    /// This number of effects for this name weren't sent.
     Dropped(Recipient, u64),
-    /// The whole table was written.
+    /// The whole table was written to the disk.
     Checkpoint,
-    /// A sync of the disk took so many milliseconds.
+    /// A sync of the disk took this number of milliseconds.
     SlowSync(u64),
 }
 
 impl Sight {
-    /// That a copy of a frame was refused.
+    /// The event of a refused copy of a frame.
     pub fn of_copy(refusal: Refusal, frame: FrameName, reception: Reception) -> Self {
         Sight::Refused {
             refusal,
@@ -48,7 +48,7 @@ impl Sight {
         }
     }
 
-    /// That a frame was refused when its window was closed; `None` where it was decided.
+    /// The event of a frame that was refused when its window was closed; `None` if it was decided.
     pub fn of_closed(closed: &ClosedFrame) -> Option<Self> {
         let refusal = closed.refused?;
         let heard = &closed.heard;
@@ -59,7 +59,7 @@ impl Sight {
         })
     }
 
-    /// That a join was granted, where this effect is its accept.
+    /// The event of a granted join, if this effect is its accept.
     pub fn of_effect(effect: &Effect) -> Option<Self> {
         match effect {
             Effect::Accept { session, downlink } => Some(Sight::Joined {
@@ -70,7 +70,7 @@ impl Sight {
         }
     }
 
-    /// The line that tells it, without a newline.
+    /// The line of the event, without a newline.
     pub fn line(self, alloc: Global) -> Result<String, AllocError> {
         match self {
             Sight::Refused {

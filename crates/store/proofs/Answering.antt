@@ -1,4 +1,4 @@
--- What an opening answers, by what was found and what came of that.
+-- What an opening returns, by what was found and what came of that.
 use Rattle.std.proofs.Common.{◌≡◌, ◌≢◌, ◌⊎◌, ◌+◌, ◌∙◌, inl, inr, ℕ, true, false, List, Result, Ok, Err, IfOk, IfErr, MatchResult, ◌==◌, ap, subst, sym}
 use Rattle.std.specs.Prelude.{IsErrAnd}
 use Rattle.lw_types.specs.declared.refusal.Refusal.{Refusal}
@@ -22,7 +22,7 @@ use Rattle.store.specs.State.{IsOld, IsOpened, StillHolds, disk_of, store_state}
 use Rattle.store.proofs.Finding.{good_front}
 use Rattle.store.proofs.Holding.{length_of, store_of}
 
--- what a crash leaves where nothing is open
+-- what a crash leaves if nothing is open
 abbrev pub SettledLaw : Type 0
 SettledLaw = (s : State) → NothingOpen s → EveryImage s (λ image. image ≡ s.content)
 
@@ -62,7 +62,7 @@ module _ {D : Type 0} (disk : Ghosts D) (at synced read : D) (found : Found) (re
   healthy_by (Ok store) is = (is.0, is.1 ∙ failures)
   healthy_by (Err e) is = tt
 
-  -- no refusal but for want of memory, or of the device
+  -- a refusal is only for lack of memory, or the device's
   abbrev Refused : Result (Store D disk) (D × Refusal) → Type 0
   Refused r = IfErr r (λ e. ((e.1 ≡ OutOfMemory) × (e.0 ≡ read)) ⊎ ((e.1 ≡ DeviceFailed) × (disk.failures e.0 ≡ disk.failures read + 1)))
 
@@ -99,7 +99,7 @@ module _ {D : Type 0} (disk : Ghosts D) (at synced read : D) (found : Found) (re
     fails = λ first. let no : true ≡ false = (subst (λ o. IsForeseen o true (disk.outlook synced)) first foreseen).0 in absurd cc;
   }
 
-  -- where the records are of the newest version a store is made
+  -- if the records are of the newest version a store is made
   pub never_refused : disk.honest → ¬ (IsOld (disk.state at).content) → (X : D × Refusal → Type 0) → IfErr result X
   never_refused honest new X = by result opening.older
     where

@@ -19,7 +19,7 @@ use Rattle.store.specs.Phases.{HasEntries, IsBegunOn, begun_sequel, begun_size, 
 use Rattle.store.specs.State.{IsSettled, StoreState}
 use Rattle.store.proofs.Restoring.{says_more}
 
--- the laws of entries that this file stands on
+-- the laws of entries that this file uses
 pub record EntryLaws : Type 0 where
   pub replay : (v : RecordVersion) (t : TableState) (ds : List Decision) (es : List EntryValue) → FitAll t ds → AreEntriesOf v ds es → AreEntries v es
       → Replay v t (entries v es) (length ds) es (with_decisions t ds)
@@ -30,7 +30,8 @@ some_decisions : (ds : List Decision) → ds ≢ [] → 1 ≤ length ds
 some_decisions [] some = absurd (some refl)
 some_decisions (d ∷ ds) some = omega arith
 
--- the bytes of a change that may follow a table and number lead on from there, whatever contents say those
+-- the bytes of a change that may follow a table and number lead on from there, whatever contents
+-- say them
 pub extends : EntryLaws → (tip : Tip) (sequel : Sequel) (size : ℕ) (bytes : List ℕ) → MayFollow tip sequel size
     → SpellsEntriesOf newest sequel.decisions bytes → length sequel.decisions ≤ 64
     → Extends tip.table tip.seq sequel (record { last_sequence = sequel.seq; entry_count = length sequel.decisions; entries = bytes })
@@ -73,7 +74,7 @@ begun_behind laws s opened begun may (bytes, written, is) few =
       bytes = is;
     }
 
--- the first phase of a legal batch, behind which there is room, may follow
+-- the first phase of a legal batch may follow if there is room after it
 module _ (tip : Tip) (commit : Commit) (batch : List Decision)
     (legal : IsLegalContinuation tip.table tip.seq batch × ((commit.batch ≡ batch) × (commit.last ≡ tip.seq + length batch)))
     (roomy : tip.next + LARGEST_BATCH ≤ tip.end) where

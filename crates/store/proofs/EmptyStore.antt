@@ -27,7 +27,7 @@ pub OnOk-of : {T E : Type 0} {P : Type 0} (r : Result T E) → P → OnOk r P
 OnOk-of (Ok x) p = p
 OnOk-of (Err e) p = tt
 
--- what was written behind the superblock's gate stays there
+-- what was written after the superblock's gate stays there
 pub front_after : (at : ℕ) (c1 c2 c3 c4 body : List ℕ) → 32 ≤ at → length body ≡ 31 → 1 ≤ length c1 → c2 ≡ bytes_after_write c1 1 body
     → IsTorn at 1 c2 c3 → IsTorn 32 31 c3 c4 → drop 1 (take 32 c4) ≡ body
 front_after at c1 c2 c3 c4 body far size some is one two =
@@ -102,11 +102,11 @@ settled_empty law net_id slots state net range settled long held closed front =
       };
     }
 
--- the first byte of a shut disk is one at every crash
+-- a crash leaves the first byte of a shut disk as it is
 pub shut_images : (state : State) → IsShut state → (image : List ℕ) → IsPermitted state image → get_or image 0 0 ≢ OPEN
 shut_images state shut image permitted same = shut.closed (sym (permitted.kept 0 shut.settled) ∙ same)
 
--- a write behind the first byte leaves it
+-- a write after the first byte leaves it
 pub shut_after : (at n : ℕ) (old new : State) → 1 ≤ at → IsWrite at n old new → IsShut old → IsShut new
 shut_after at n old new behind opens shut = record {
   settled = opens.others 0 (inl (omega arith)) ∙ shut.settled;
@@ -117,19 +117,19 @@ shut_after at n old new behind opens shut = record {
     first_kept at xs ys behind same =
         sym (get_or-take at ys 0 0 (omega arith)) ∙ (ap (λ (l : List ℕ). get_or l 0 0) same ∙ get_or-take at xs 0 0 (omega arith))
 
--- a torn gate that reads open is the open one
+-- a torn gate that reads as open is the open one
 pub opened_image : (old image : List ℕ) → IsTorn 0 1 old image → 1 ≤ length old → get_or image 0 0 ≡ OPEN → image ≡ bytes_after_write old 0 (OPEN ∷ [])
 opened_image old [] torn some is = absurd (omega (arith, torn.same_length))
 opened_image old (x ∷ image) torn some is = (λ i. is i ∷ torn.after i)
 
--- a gate behind a write stays closed
+-- a gate after a write stays closed
 pub closed_after : (at n : ℕ) (area : Area) (old new : List ℕ) → IsTorn at n old new → at + n ≤ area.start → IsClosedArea area old → IsClosedArea area new
 closed_after at n area old new torn behind closed same = closed (sym (kept old) ∙ (ap (λ (l : List ℕ). get_or l (area.start - (at + n)) 0) (sym torn.after) ∙ (kept new ∙ same)))
   where
     kept : (xs : List ℕ) → get_or (drop (at + n) xs) (area.start - (at + n)) 0 ≡ get_or xs area.start 0
     kept xs = get_or-drop (at + n) xs (area.start - (at + n)) 0 ∙ ap (λ k. get_or xs k 0) (let is : at + n + (area.start - (at + n)) ≡ area.start = omega (arith, behind) in is)
 
--- a torn gate in front of a store without devices
+-- a torn gate before a store without devices
 pub formatted_image : ClosedLaw → (net_id slots : ℕ) (old image : List ℕ) → net_id < 64 → (1 ≤ slots) × (slots ≤ 4096) → length old ≡ disk_len slots
     → ((area : Area) (old new : List ℕ) (j : Journal) → HoldsIn area j old → bytes_in area new ≡ bytes_in area old → HoldsIn area j new)
     → HoldsIn (area_a slots) (checkpoint (fresh_header RECORD_VERSION) []) old → IsClosedArea (area_b slots) old → drop 1 (take 32 old) ≡ superblock_body net_id slots

@@ -22,7 +22,7 @@ use Rattle.store.specs.Found.{IsFound}
 use Rattle.store.specs.Image.{AreAreas, HoldsTable, IsLive, BatchesLead, NoneLive, Restores, Says, area_a, area_b, last_generation}
 use Rattle.store.proofs.Holding.{front_is, store_of}
 
--- the laws of areas that this file stands on
+-- the laws of areas that this file uses
 pub record AreaLaws : Type 0 where
   pub live : (disk : List ℕ) (c : LogContents) → Holds c disk → IsLiveArea c.areas c.journal.header disk
   pub room : (disk : List ℕ) (c : LogContents) → Holds c disk → HasRoomFor c.areas.live c.journal.header
@@ -30,7 +30,7 @@ pub record AreaLaws : Type 0 where
   pub none : (a b : Area) (disk : List ℕ) (c : LogContents) → NoLiveArea a b disk → AreOf a b c.areas → ¬ (Holds c disk)
   pub same : (a b : Area) (disk : List ℕ) (c d : LogContents) → AreOf a b c.areas → AreOf a b d.areas → Holds c disk → Holds d disk → c ≡ d
 
--- entries that are put keep the network and the number of slots
+-- putting entries keeps the network and the number of slots
 pub record KeepLaws : Type 0 where
   pub net_id : (v : RecordVersion) (t u : TableState) (es : List EntryValue) → EntriesLead v t es u → u.net_id ≡ t.net_id
   pub slots : (v : RecordVersion) (t u : TableState) (es : List EntryValue) → EntriesLead v t es u → u.slots ≡ t.slots
@@ -45,7 +45,7 @@ lead_slots keep v t seq [] u n lead = ap (λ (x : TableState). x.slots) lead.0
 lead_slots keep v t seq (b ∷ batches) u n lead =
     lead_slots keep v lead.1 b.last_sequence batches u n lead.3 ∙ keep.slots v t lead.1 lead.0 lead.2.replay.leads
 
--- what is restored has the slots that it was restored for
+-- what is restored has the slots for which it was restored
 pub restored_slots : KeepLaws → (v : RecordVersion) (net slots : ℕ) (header : Header) (records : List ℕ) (batches : List BatchValue) (t : TableState) (seq : ℕ)
     → Restores v net slots header records batches t seq → t.slots ≡ slots
 restored_slots keep v net slots header records batches t seq r =
@@ -59,7 +59,7 @@ one_version V1 V2 same = absurd (omega (arith, same))
 one_version V2 V1 same = absurd (omega (arith, same))
 one_version V2 V2 same = refl
 
--- so a usable header of a version has a generation that may be in that one
+-- so a usable header of a version has a generation that is allowed in that version
 pub early : {area : Area} {h : Header} (v : RecordVersion) → h.version ≡ version_byte v → IsUsable area h → h.generation ≤ last_generation v
 early {area} {h} v version usable = subst (λ w. h.generation ≤ last_generation w) (one_version usable.version v (sym usable.of_version ∙ version)) usable.generation
 

@@ -27,7 +27,7 @@ module _ (s : StoreState) (sequel : Sequel) (c : LogContents) (b : BatchValue) (
   held_either (inl without) = inl (held without)
   held_either (inr with_it) = inr (held_with with_it)
 
--- in front of the areas there is room for the superblock
+-- before the areas there is room for the superblock
 pub front_is : (slots : ℕ) (areas : Areas) → AreAreas slots areas → front_len areas ≡ 32
 front_is slots areas (inl is) = let start : min 32 (32 + area_len slots) ≡ 32 = omega arith in ap front_len is ∙ start
 front_is slots areas (inr is) = let start : min (32 + area_len slots) 32 ≡ 32 = omega arith in ap front_len is ∙ start
@@ -42,7 +42,7 @@ slots_after : (t : TableState) (ds : List Decision) → (with_decisions t ds).sl
 slots_after t [] = refl
 slots_after t (d ∷ ds) = slots_after (with_record t d.slot d.after) ds
 
--- so the areas have their length still
+-- so the areas still have their length
 pub have_length_after : (t u : TableState) (ds : List Decision) (areas : Areas) → u ≡ with_decisions t ds → HaveLength t.slots areas → HaveLength u.slots areas
 have_length_after t u ds areas is long = subst (λ n. HaveLength n areas) (sym (ap (λ (x : TableState). x.slots) is ∙ slots_after t ds)) long
 
@@ -56,7 +56,7 @@ laid_out slots size is = record {
   apart = λ i a b x y. omega (arith, b, x);
 }
 
--- the superblock in front of an image is the table's
+-- the superblock at the beginning of an image is the table's
 pub store_of : (t : TableState) (seq : ℕ) (image : List ℕ) → HoldsTable t seq image → IsStoreOf image t.net_id t.slots
 store_of t seq image h = record {
   net_id_range = h.says.net_id;
@@ -67,7 +67,7 @@ store_of t seq image h = record {
 pub length_of : (t : TableState) (seq : ℕ) (image : List ℕ) → HoldsTable t seq image → length image ≡ disk_len t.slots
 length_of t seq image h = h.holds.size ∙ h.says.size
 
--- bytes in front that are no superblock
+-- first bytes that are no superblock
 pub front_fault : (image bytes : List ℕ) (e : Refusal) → bytes ≡ take 32 image → 32 ≤ length image → IsNoSuperblock bytes
     → ((e ≡ NotFormatted) ↔ (¬ (IsNamed bytes))) → ((e ≡ WrongVersion) ↔ (IsNamed bytes × (get_or bytes 8 0 ≢ 1)))
     → (e ≡ NotFormatted) ⊎ ((e ≡ WrongVersion) ⊎ (e ≡ Damaged)) → IsFault image e
@@ -76,7 +76,7 @@ front_fault image bytes e is long none unnamed version others = record {
   first = inl (inr (long, inl (subst (λ (b : List ℕ). SuperblockFault b e) is (record { none = none; not_formatted = unnamed; version = version; others = others }))));
 }
 
--- a superblock that speaks of another length
+-- a superblock with another length
 pub size_fault : (image : List ℕ) (net_id slots : ℕ) → 32 ≤ length image → IsStoreOf image net_id slots
     → ((n s : ℕ) → IsStoreOf image n s → (n ≡ net_id) × (s ≡ slots)) → length image ≢ disk_len slots → IsFault image WrongSize
 size_fault image net_id slots long is only other = record {

@@ -28,7 +28,7 @@ publishing_fails disk old new publishing r e is table seq images =
     subst (λ r. IsPublishingCall disk old publishing r new) (sym is)
     (record { fits = tt; calls = tt; table = table; seq = seq; on_disk = λ honest on. tt; images = images; generation = λ honest on. tt })
 
--- how many calls are left behind the first one
+-- the number of calls that are left after the first one
 pub five_left : (open_still : Bool) → open_still ≡ true → 5 ≡ (if open_still then 6 else 4) - 1
 five_left open_still is = ap (λ b. (if b then 6 else 4) - 1) (sym is)
 
@@ -45,14 +45,14 @@ held t t' n n' image table number holds = subst (λ n. HoldsTable t' n image) nu
 none : (s : StoreState) → s.seq ≡ s.seq + 0
 none s = omega arith
 
--- where no batch is durable the store has what it had
+-- if no batch is durable the store has what it had
 pub keeps_all : (s s' : StoreState) (flights : List (Flight Decision)) → durable_in [] flights ≡ [] → s'.table ≡ s.table → s'.seq ≡ s.seq → HasDurable flights s s'
 keeps_all s s' flights alone table seq = record {
   table = table ∙ ap (with_decisions s.table) (sym alone);
   seq = seq ∙ (none s ∙ ap (λ (l : List Decision). s.seq + length l) (sym alone));
 }
 
--- and where its image holds that, it is what may be left
+-- and if its image holds that, it is what may be left
 pub left_without : (s : StoreState) (flights : List (Flight Decision)) (image : List ℕ) → MayLeave [] flights [] → HoldsTable s.table s.seq image → HoldsLeft s flights image
 left_without s flights image leaves holds = ([], leaves, held s.table s.table s.seq (s.seq + 0) image refl (none s) holds)
 

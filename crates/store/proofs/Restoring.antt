@@ -16,7 +16,7 @@ lead_on v t t' seq b batches es is one u n = (
   λ lead. (es, t', is, lead),
 )
 
--- one batch more
+-- one more batch
 pub lead_push : (v : RecordVersion) (t : TableState) (seq : ℕ) (batches : List BatchValue) (u : TableState) (n : ℕ) (b : BatchValue) (es : List EntryValue) (w : TableState)
     → BatchesLead v t seq batches u n → IsBatchOn v u n b es w → BatchesLead v t seq (batches ++ b ∷ []) w b.last_sequence
 lead_push v t seq [] u n b es w (same, number) is =
@@ -24,7 +24,7 @@ lead_push v t seq [] u n b es w (same, number) is =
 lead_push v t seq (x ∷ batches) u n b es w lead is =
     (lead.0, lead.1, lead.2, lead_push v lead.1 x.last_sequence batches u n b es w lead.3 is)
 
--- contents with a batch more say the table that its entries lead to
+-- contents with one more batch say the table to which its entries lead
 pub says_more : (v : RecordVersion) (c : LogContents) (t : TableState) (seq : ℕ) (b : BatchValue) (es : List EntryValue) (u : TableState) → Says v c t seq → IsBatchOn v t seq b es u
     → u.net_id ≡ t.net_id → u.slots ≡ t.slots → Says v (contents_with_batch c b) u b.last_sequence
 says_more v c t seq b es u says is net slots =

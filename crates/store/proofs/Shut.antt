@@ -1,4 +1,4 @@
--- A log behind the superblock's closed gate, which is then opened.
+-- A log after the superblock's closed gate, which is then opened.
 use Rattle.std.proofs.Common.{◌≡◌, ◌≢◌, ◌≤◌, ◌<◌, ◌-◌, ◌+◌, ◌∙◌, ◌⊎◌, inl, inr, ℕ, zero, suc, List, [], ◌∷◌, Bool, true, false, length, take, drop, get_or, min, sym, ap, subst, refl, arith}
 use Rattle.std.specs.Prelude.{IfErr, MatchBool, Result, Ok, Err}
 use Rattle.std.proofs.lemmas.Bool.{cases_eq}
@@ -25,11 +25,11 @@ use Rattle.store.proofs.EmptyStore.{opened_image}
 use Rattle.store.proofs.Holding.{front_is}
 use Rattle.store.proofs.Republishing.{TableLaw}
 
--- a journal stays where others change
+-- a journal stays if others change
 abbrev pub StayLaw : Type 0
 StayLaw = (area : Area) (old new : List ℕ) (j : Journal) → HoldsIn area j old → bytes_in area new ≡ bytes_in area old → HoldsIn area j new
 
--- ---- the bytes behind the first one
+-- ---- the bytes after the first one
 
 behind_gate : (n : ℕ) (bytes : List ℕ) → 1 ≤ n → drop n (OPEN ∷ drop 1 bytes) ≡ drop n bytes
 behind_gate zero bytes some = absurd (omega (arith, some))
@@ -57,7 +57,7 @@ same_area area old new some is = ap (bytes_in area) is ∙ ap (take (area.end - 
 
 -- ---- contents
 
--- both areas begin behind the front
+-- both areas begin after the front
 module _ (c : LogContents) (some : 1 ≤ front_len c.areas) where
   live_behind : 1 ≤ c.areas.live.start
   live_behind = omega (arith, some)
@@ -82,7 +82,7 @@ gate_still : (is_open : Bool) (area : Area) (old new : List ℕ) → get_or new 
 gate_still true area old new same is = same ∙ is
 gate_still false area old new same closed = λ is. closed (sym same ∙ is)
 
--- a log at rest is at rest when the gate in front of it was opened
+-- a log at rest is still at rest after the gate before it was opened
 pub opened_rest : StayLaw → (c : LogContents) (log : LogState) (new : State) → 1 ≤ front_len c.areas → NothingOpen new
     → new.content ≡ bytes_after_write log.disk.content 0 (OPEN ∷ []) → IsAtRest log c
     → IsAtRest (record { disk = new; areas = log.areas; next = log.next; generation = log.generation; other_open = log.other_open }) (opened_contents c)
@@ -95,7 +95,7 @@ opened_rest law c log new some nothing is rest =
           (ap (λ (l : List ℕ). get_or l c.areas.other.start 0) is ∙ same_at c.areas.other.start log.disk.content (other_behind c some)) rest.other_gate;
     }
 
--- the gate in front may be torn
+-- the gate before it may be torn
 pub torn_front : StayLaw → (c : LogContents) (old image : List ℕ) → 1 ≤ front_len c.areas → Holds c old → IsTorn 0 1 old image → IsOpenedImage c image
 torn_front law c old image some h torn =
     let long : 1 ≤ length old = (let a = h.layout.live_room in let b = h.layout.live_within in let s = h.size in omega (arith, a, b, s)) in
@@ -104,7 +104,7 @@ torn_front law c old image some h torn =
       | inr other ↦ inl other
     ]
 
--- ---- behind the closed gate
+-- ---- after the closed gate
 
 pub still_shut : (c : LogContents) (image : List ℕ) → IsBehindShut c → Holds c image → get_or image 0 0 ≢ OPEN
 still_shut c image shut h is =
@@ -123,7 +123,7 @@ still_shut_either c header records image shut (inr h) = still_shut (contents_wit
 abbrev new_areas : ℕ → Areas
 new_areas slots = record { live = area_a slots; other = area_b slots }
 
--- what a disk holds behind the closed gate before it
+-- what a disk holds after the closed gate
 abbrev pub shut_contents : ℕ → List ℕ → LogContents
 shut_contents slots bytes = contents_in (new_areas slots) bytes (checkpoint (fresh_header RECORD_VERSION) [])
 
@@ -174,7 +174,7 @@ first_says law t seq net_id slots own few each =
       };
     }
 
--- also where its network and its slots were read
+-- even if its network and its slots were read
 pub first_of : TableLaw → (t : TableState) (seq net slots : ℕ) → net ≡ t.net_id → slots ≡ t.slots → net < 64 → IsSlots slots → HaveOwnSlots t.devices
     → length t.devices ≤ t.slots → AreEntries newest (entries_of_table t)
     → (first_contents net slots (header_behind t seq 1 (length (entries newest (entries_of_table t)))) (entries newest (entries_of_table t))

@@ -2,7 +2,7 @@
 use Rattle.std.proofs.Common.{◌≡◌, ◌∙◌, List, ℕ, length, slice_index, sym, ap, subst, Result, Ok, Err, OnOk, OnErr}
 use Rattle.disk.specs.State.{State, EveryImage, IsSettledAt}
 
--- nothing but what it might have left before, whether the sync succeeded or not
+-- only what it might have left before, whether the sync succeeded or not
 pub still_every : {T E : Type 0} (before after : State) (r : Result T E) (P : List ℕ → Type 0) → OnOk r (IsSettledAt before.content after)
     → OnErr r (after ≡ before) → EveryImage before P → EveryImage after P
 still_every before after (Ok x) P settled same every = λ image permitted.

@@ -29,7 +29,7 @@ use Rattle.store.specs.declared.store.TheConstants.{LARGEST_BATCH}
 use Rattle.store.specs.Image.{Says}
 use Rattle.store.specs.State.{StoreState}
 
--- how far behind its area's gate that of a checkpoint's first batch stands, in each phase
+-- the number of bytes from the area's gate to the gate of a checkpoint's first batch, in each phase
 abbrev pub checkpoint_size : Checkpoint → ℕ
 checkpoint_size begun = length (checkpoint_bytes begun.phase)
 
@@ -49,8 +49,9 @@ checkpoint_opened_size opened = (opened_front opened.phase).len
 abbrev pub FitsOther : StoreState → ℕ → Type 0
 FitsOther s size = s.log.areas.other.start + size + LARGEST_BATCH ≤ s.log.areas.other.end
 
--- the header of a checkpoint of a table and a number behind an area of this generation, with
--- `records_len` bytes of records: of the next generation, and of the newest version
+-- the header of a checkpoint of a table and a number after an area of this generation, with
+-- `records_len` bytes of records: the checkpoint is of the next generation and of the newest
+-- version
 abbrev pub header_behind : TableState → ℕ → ℕ → ℕ → Header
 header_behind t seq generation records_len = record {
   version = version_byte newest;
@@ -72,7 +73,7 @@ abbrev pub next_header : StoreState → ℕ → Header
 next_header s records_len = header_behind s.table s.seq s.log.generation records_len
 
 -- Why no checkpoint is begun: a call of the disk has failed, or else the live area has the last
--- generation, each of them exactly; or memory is wanted.
+-- generation, each of them exactly then; or memory ran out.
 abbrev pub IsCheckpointAnswer : StoreState → Result Checkpoint Refusal → Type 0
 IsCheckpointAnswer s result =
     MatchBool s.failed
@@ -83,7 +84,7 @@ IsCheckpointAnswer s result =
     ⊎ ((e ≡ OutOfMemory) × (s.log.generation < LAST_GENERATION))))
 
 -- the contents say a table and a number, in records of a version, and so does the checkpoint that
--- may follow them, of the next generation and in the newest version
+-- may follow them, which is of the next generation and in the newest version
 pub record Republishes (version : RecordVersion) (t : TableState) (seq : ℕ) (c : LogContents)
     (header : Header) (records : List ℕ) : Type 0 where
   pub before : Says version c t seq
@@ -100,7 +101,7 @@ pub record IsCheckpointOn (s : StoreState) (begun : Checkpoint) : Type 0 where
   pub rest : IsAtRest s.log contents
   pub bytes : IsLogCheckpoint begun.phase header records
 
--- the other area's gate is closed, and may be torn
+-- the other area's gate is closed, and that write may be torn
 pub record IsRetiringOn (s : StoreState) (retiring : Retiring) : Type 0 where
   pub contents : LogContents
   pub header : Header
@@ -125,7 +126,7 @@ pub record IsCheckpointSyncedOn (s : StoreState) (synced : CheckpointSynced) : T
   pub republishes : Republishes newest s.table s.seq contents header records
   pub log : IsLogSynced s.log contents header records (synced_front synced.phase)
 
--- its gate is open, and may be torn
+-- its gate is open, and that write may be torn
 pub record IsCheckpointOpenedOn (s : StoreState) (opened : CheckpointOpened) : Type 0 where
   pub contents : LogContents
   pub header : Header

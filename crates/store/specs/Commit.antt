@@ -14,7 +14,7 @@ pub record Sequel : Type 0 where
 abbrev pub sequel_of : Commit → Sequel
 sequel_of commit = record { decisions = commit.batch; seq = commit.last }
 
--- where a journal goes on: a table and the number of its last decision, the place of the next
+-- where a journal continues: a table and the number of its last decision, the place of the next
 -- batch's gate, and the end of the area
 pub record Tip : Type 0 where
   pub table : TableState
@@ -25,13 +25,13 @@ pub record Tip : Type 0 where
 abbrev pub tip_of : StoreState → Tip
 tip_of s = record { table = s.table; seq = s.seq; next = s.log.next; end = s.log.areas.live.end }
 
--- the sequel may follow: it is a legal continuation, and `size` bytes fit behind the next gate
+-- the sequel may follow: it is a legal continuation, and `size` bytes fit after the next gate
 pub record MayFollow (tip : Tip) (sequel : Sequel) (size : ℕ) : Type 0 where
   pub legal : IsLegalContinuation tip.table tip.seq sequel.decisions
   pub seq : sequel.seq ≡ tip.seq + length sequel.decisions
   pub room : tip.next + size < tip.end
 
--- the sequel is on its way in this store
+-- the sequel is under way in this store
 abbrev pub IsUnderWay : StoreState → Sequel → ℕ → Type 0
 IsUnderWay s sequel size = MayFollow (tip_of s) sequel size
 
@@ -39,7 +39,7 @@ IsUnderWay s sequel size = MayFollow (tip_of s) sequel size
 abbrev pub table_after : StoreState → Sequel → TableState
 table_after s sequel = with_decisions s.table sequel.decisions
 
--- where it goes on behind a sequel of `size` bytes
+-- where it continues after a sequel of `size` bytes
 abbrev pub tip_past : Tip → Sequel → ℕ → Tip
 tip_past tip sequel size =
     record {
@@ -49,6 +49,6 @@ tip_past tip sequel size =
       end = tip.end;
     }
 
--- where the journal of this store goes on behind a sequel that is on its way
+-- where the journal of this store continues after a sequel that is under way
 abbrev pub tip_behind : StoreState → Sequel → ℕ → Tip
 tip_behind s sequel size = tip_past (tip_of s) sequel size

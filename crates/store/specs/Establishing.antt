@@ -1,5 +1,5 @@
--- How a store that has a table from the start comes to a disk: a checkpoint of it is published
--- behind the superblock's closed gate, which is opened last.
+-- How a store that has a table from the beginning comes to a disk: a checkpoint of it is published
+-- after the superblock's closed gate, which is opened last.
 use Rattle.std.specs.Prelude.{◌≡◌, ◌≢◌, ◌⊎◌, ◌+◌, ◌≤◌, ℕ, List, ◌∷◌, false, Result, IfOk, IfErr}
 use Rattle.std.specs.Prelude.{MatchResult, drop, length, slice_index}
 use Rattle.lw_types.specs.declared.refusal.Refusal.{Refusal}
@@ -19,8 +19,8 @@ use Rattle.store.specs.Image.{area_a, area_b}
 use Rattle.store.specs.State.{IsSettled, disk_of, store_state}
 use Rattle.store.specs.declared.store.Store.{Store}
 
--- a store with this table and number was made on the disk, or not, and why; then the disk comes
--- back
+-- a store with this table and number was made on the disk, or not, and why; then the disk is
+-- returned
 pub record IsEstablished {D : Type 0} (disk : Ghosts D) (at : D) (t : TableState) (seq : ℕ)
     (result : Result (Store D disk) (D × Refusal)) : Type 0 where
   pub made : IfOk result (λ store. ((store_state disk.state store).table ≡ t)
@@ -40,21 +40,21 @@ pub record IsEstablished {D : Type 0} (disk : Ghosts D) (at : D) (t : TableState
   pub unarmed : disk.outlook at ≡ AllSucceed → MatchResult result
       (λ store. disk.outlook (disk_of store) ≡ AllSucceed) (λ e. e.1 ≢ DeviceFailed)
 
--- the contents with an open gate in front
+-- the contents after an open gate
 abbrev pub opened_contents : LogContents → LogContents
 opened_contents c =
     record { areas = c.areas; front = OPEN ∷ drop 1 c.front; journal = c.journal; size = c.size }
 
--- there is a gate in front of both areas, and it is closed
+-- a gate stands before both areas, and it is closed
 pub record IsBehindShut (c : LogContents) : Type 0 where
   pub some : 1 ≤ front_len c.areas
   pub closed : slice_index c.front 0 ≢ OPEN
 
--- no store is there, or these contents behind an open gate
+-- the disk holds no store, or these contents after an open gate
 abbrev pub IsOpenedImage : LogContents → List ℕ → Type 0
 IsOpenedImage c image = (slice_index image 0 ≢ OPEN) ⊎ Holds (opened_contents c) image
 
--- what the disk holds in the end: the superblock, and the checkpoint in the second area
+-- what the disk holds at the end: the superblock, and the checkpoint in the second area
 abbrev pub first_contents : ℕ → ℕ → Header → List ℕ → LogContents
 first_contents net_id slots header records =
     record {
@@ -70,7 +70,7 @@ pub record IsFirstCheckpoint (header : Header) (records : List ℕ) : Type 0 whe
   pub generation : header.generation ≡ 2
   pub len : length records ≡ header.records_len
 
--- no store is there, or these contents, or all behind the first byte is as it was
+-- the disk holds no store, or these contents, or everything after the first byte is as it was
 abbrev pub IsFirstImage : LogContents → List ℕ → List ℕ → Type 0
 IsFirstImage c old image =
     (slice_index image 0 ≢ OPEN) ⊎ (Holds c image ⊎ (drop 1 image ≡ drop 1 old))

@@ -1,4 +1,4 @@
--- Why an image holds no store. Of several reasons the first one here is answered.
+-- Why an image holds no store. If there are several reasons, the first one here is returned.
 use Rattle.std.specs.Prelude.{◌≡◌, ◌≢◌, ◌<◌, ◌≤◌, ◌⊎◌, ◌↔◌, ℕ, List, ◌∷◌, length, take, slice_index}
 use Rattle.std.specs.Prelude.{codes}
 use Rattle.lw_types.specs.declared.refusal.Refusal.{Refusal}
@@ -17,11 +17,11 @@ use Rattle.record_codec.specs.declared.version.RecordVersion.{RecordVersion}
 use Rattle.record_codec.specs.Version.{version_byte}
 use Rattle.store.specs.Image.{HoldsTable, IsLive, NoneLive, last_generation}
 
--- the gate of a store is open, and its name is there
+-- the gate of a store is open, and its name follows
 abbrev pub IsNamed : List ℕ → Type 0
 IsNamed bytes = take 8 bytes ≡ OPEN ∷ codes "LNSTORE"
 
--- no store has these 32 bytes in front
+-- no store begins with these 32 bytes
 abbrev pub IsNoSuperblock : List ℕ → Type 0
 IsNoSuperblock bytes =
     (net_id slots : ℕ) → net_id < 64 → IsSlots slots → bytes ≢ superblock net_id slots
@@ -34,7 +34,7 @@ pub record SuperblockFault (bytes : List ℕ) (e : Refusal) : Type 0 where
   pub version : (e ≡ WrongVersion) ↔ (IsNamed bytes × (slice_index bytes 8 ≢ 1))
   pub others : (e ≡ NotFormatted) ⊎ ((e ≡ WrongVersion) ⊎ (e ≡ Damaged))
 
--- the store that the superblock speaks of
+-- the store that the superblock describes
 pub record IsStoreOf (image : List ℕ) (net_id slots : ℕ) : Type 0 where
   pub net_id_range : net_id < 64
   pub slots_range : IsSlots slots
@@ -49,12 +49,12 @@ FrontFault image e =
     ⊎ ((net_id slots : ℕ) × IsStoreOf image net_id slots × (length image ≢ disk_len slots)
     × (e ≡ WrongSize))))
 
--- a version of records that is read
+-- a version of records that can be read
 abbrev pub IsKnown : ℕ → Type 0
 IsKnown byte = (version : RecordVersion) × (byte ≡ version_byte version)
 
--- a header of a version that is read, of a generation that may be, and with records that fit the
--- area
+-- a header of a version that can be read, of a generation that is allowed, and with records that
+-- fit the area
 pub record IsUsable (area : Area) (h : Header) : Type 0 where
   pub version : RecordVersion
   pub of_version : h.version ≡ version_byte version

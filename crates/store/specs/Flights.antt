@@ -7,11 +7,11 @@ pub data Stage : Type 0 where
   Begun : Stage
   -- its body is written
   Written : Stage
-  -- and synced
+  -- and it is synced
   BodySynced : Stage
   -- its gate is open
   GateWritten : Stage
-  -- and synced: every crash leaves it
+  -- and it is synced: every crash leaves the batch
   Durable : Stage
   -- a device call failed before the gate was touched
   Stopped : Stage
@@ -28,7 +28,7 @@ abbrev pub in_flight : {X : Type 0} → List (Flight X) → List X
 in_flight [] = []
 in_flight (flight ∷ flights) = flight.batch ++ in_flight flights
 
--- a device call of the batch succeeded
+-- what a device call of the batch that succeeded makes of its stage
 abbrev pub next_stage : Stage → Stage
 next_stage Begun = Written
 next_stage Written = BodySynced
@@ -36,7 +36,7 @@ next_stage BodySynced = GateWritten
 next_stage GateWritten = Durable
 next_stage stage = stage
 
--- or failed
+-- and what one that failed makes of it
 abbrev pub failed_stage : Stage → Stage
 failed_stage Begun = Stopped
 failed_stage Written = Stopped
@@ -44,7 +44,7 @@ failed_stage BodySynced = Unsure
 failed_stage GateWritten = Unsure
 failed_stage stage = stage
 
--- a gate waits while the body of the batch behind it is written, and both are synced by one call
+-- a gate waits while the body of the batch after it is written, and both are synced by one call
 abbrev pub next_stage_before : Stage → Stage → Stage
 next_stage_before Begun stage = stage
 next_stage_before behind stage = next_stage stage
@@ -57,13 +57,13 @@ all_succeeded (first ∷ second ∷ rest) =
     record first { stage = next_stage_before second.stage first.stage }
     ∷ all_succeeded (second ∷ rest)
 
--- or failed
+-- one device call of these batches failed
 abbrev pub all_failed : {X : Type 0} → List (Flight X) → List (Flight X)
 all_failed [] = []
 all_failed (flight ∷ flights) =
     record flight { stage = failed_stage flight.stage } ∷ all_failed flights
 
--- what is durable: what is settled, and the durable batches behind it
+-- what is durable: what is settled, and the durable batches after it
 abbrev pub with_durable : {X : Type 0} → Stage → List X → List X → List X
 with_durable Durable settled more = more
 with_durable stage settled more = settled
@@ -73,16 +73,16 @@ durable_in settled [] = settled
 durable_in settled (flight ∷ flights) =
     with_durable flight.stage settled (durable_in (settled ++ flight.batch) flights)
 
--- what may come of a batch by its stage: it is there, it may be there, or it isn't
+-- what a crash may do to a batch, by its stage: the batch stays, it may stay, or it is gone
 abbrev pub ByStage : Stage → Type 0 → Type 0 → Type 0 → Type 0
 ByStage Durable there doubtful gone = there
 ByStage GateWritten there doubtful gone = doubtful
 ByStage Unsure there doubtful gone = doubtful
 ByStage stage there doubtful gone = gone
 
--- What a crash may leave, where this is settled and these batches are under way, the oldest first:
--- a durable one is left with what comes behind it, one whose gate may be open is left or not, and
--- no other is.
+-- What a crash may leave if this is settled and these batches are under way, the oldest first. A
+-- durable batch is left, and the same holds for those after it. A batch whose gate may be open is
+-- left or not, and none after it is. Any other batch isn't left, and none after it is.
 abbrev pub MayLeave : {X : Type 0} → List X → List (Flight X) → List X → Type 0
 MayLeave settled [] kept = kept ≡ settled
 MayLeave settled (flight ∷ flights) kept =

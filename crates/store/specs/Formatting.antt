@@ -10,12 +10,12 @@ pub record IsShut (state : State) : Type 0 where
   pub settled : state.is_open 0 ≡ false
   pub closed : slice_index state.content 0 ≢ OPEN
 
--- no store is there, or all behind the superblock's gate is as it was
+-- the disk holds no store, or everything after the superblock's gate is as it was
 abbrev pub IsShutImage : List ℕ → List ℕ → Type 0
 IsShutImage old image = (slice_index image 0 ≢ OPEN) ⊎ (drop 1 image ≡ drop 1 old)
 
--- no store is there, or the new one with this table and number, or all behind the superblock's gate
--- is as it was
+-- the disk holds no store, or the new one with this table and number, or everything after the
+-- superblock's gate is as it was
 abbrev pub IsNewStoreImage : TableState → ℕ → List ℕ → List ℕ → Type 0
 IsNewStoreImage t seq old image =
     (slice_index image 0 ≢ OPEN) ⊎ (HoldsTable t seq image ⊎ (drop 1 image ≡ drop 1 old))

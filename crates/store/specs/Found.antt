@@ -1,4 +1,4 @@
--- What was read of a disk that is opened.
+-- What was read from a disk that is being opened.
 use Rattle.std.specs.Prelude.{◌≡◌, ◌≢◌, ◌⊎◌, ◌+◌, ℕ, Bool, false, List, length, Result, Ok, Err}
 use Rattle.std.specs.Prelude.{IfOk, IfErr, MatchResult}
 use Rattle.lw_types.specs.declared.refusal.Refusal.{Refusal}
@@ -30,8 +30,9 @@ pub record IsFound (image : List ℕ) (found : Found) : Type 0 where
   pub only : (t : TableState) (seq : ℕ) → HoldsTable t seq image
       → (t ≡ found.table) × (seq ≡ found.seq)
 
--- A store with what was found on this disk was made, or not, and why. Nothing is written where the
--- records are of the newest version; else the disk holds what it held, whatever comes.
+-- A store with what was found on this disk was made, or not, and why. Nothing is written if the
+-- records are of the newest version; otherwise the disk still holds what it held, whatever the
+-- result is.
 pub record IsOpeningOf {D : Type 0} (disk : Ghosts D) (at : D) (found : Found)
     (result : Result (Store D disk) (D × Refusal)) : Type 0 where
   pub opened : disk.honest → IsFound (disk.state at).content found → IfOk result

@@ -15,11 +15,11 @@ use Rattle.record_codec.specs.Version.{version_byte}
 use Rattle.store_layout.specs.Entries.{EntryValue, Replay, ReplayGoesOn}
 use Rattle.store.specs.declared.areas.TheConstants.{LAST_GENERATION, LAST_OLD_GENERATION}
 
--- the first area, behind the superblock
+-- the first area, after the superblock
 abbrev pub area_a : ℕ → Area
 area_a slots = record { start = LEN; end = LEN + area_len slots }
 
--- the second area, behind the first
+-- the second area, after the first
 abbrev pub area_b : ℕ → Area
 area_b slots = record { start = LEN + area_len slots; end = LEN + area_len slots + area_len slots }
 
@@ -41,14 +41,15 @@ pub record IsLive (image : List ℕ) (slots : ℕ) (areas : Areas) (header : Hea
 abbrev pub NoneLive : List ℕ → ℕ → Type 0
 NoneLive image slots = NoLiveArea (area_a slots) (area_b slots) image
 
--- `count` records, each of a slot of its own, that put this table together
+-- `count` records, each of a different slot, that make up this table
 pub record IsCheckpointOf (version : RecordVersion) (net_id slots : ℕ) (records : List ℕ)
     (count : ℕ) (t : TableState) : Type 0 where
   pub entries : List EntryValue
   pub replay : Replay version (empty_table net_id slots) records count entries t
   pub own_slots : length t.devices ≡ count
 
--- a batch of 1 to 64 entries that lead from one table to another, numbered on from a number
+-- a batch of 1 to 64 entries that lead from one table to another, with numbers that follow a given
+-- one
 pub record IsBatchOn (version : RecordVersion) (t : TableState) (seq : ℕ) (b : BatchValue)
     (entries : List EntryValue) (u : TableState) : Type 0 where
   pub replay : Replay version t b.entries b.entry_count entries u
@@ -63,8 +64,8 @@ BatchesLead version t seq (b ∷ batches) u n =
     (entries : List EntryValue) × (next : TableState) × IsBatchOn version t seq b entries next
     × BatchesLead version next b.last_sequence batches u n
 
--- The batch goes on from this table and number as far as some entry of it, for which memory may be
--- wanted.
+-- The batch leads on from this table and number up to some entry of it, for which memory may be
+-- needed.
 pub record BatchGoesOn (version : RecordVersion) (t : TableState) (seq : ℕ)
     (b : BatchValue) : Type 0 where
   pub some : 1 ≤ b.entry_count
@@ -72,7 +73,7 @@ pub record BatchGoesOn (version : RecordVersion) (t : TableState) (seq : ℕ)
   pub number : b.last_sequence ≡ seq + b.entry_count
   pub goes_on : ReplayGoesOn version t b.entries b.entry_count
 
--- and so does one of these batches, from where those in front of it lead
+-- and so does one of these batches, from where those before it lead
 pub record BatchesGoOn (version : RecordVersion) (t : TableState) (seq : ℕ)
     (batches : List BatchValue) : Type 0 where
   pub front : List BatchValue
@@ -84,21 +85,21 @@ pub record BatchesGoOn (version : RecordVersion) (t : TableState) (seq : ℕ)
   pub leads : BatchesLead version t seq front here last
   pub goes_on : BatchGoesOn version here last next
 
--- the table and number that a checkpoint and the batches behind it lead to
+-- the table and number to which the checkpoint and the batches after it lead
 pub record Restores (version : RecordVersion) (net_id slots : ℕ) (header : Header)
     (records : List ℕ) (later : List BatchValue) (t : TableState) (seq : ℕ) : Type 0 where
   pub base : TableState
   pub checkpoint : IsCheckpointOf version net_id slots records header.record_count base
   pub batches : BatchesLead version base header.sequence later t seq
 
--- The greatest generation of an area with records of a version. One of an older version has to be
--- followed by one more, in the newest.
+-- The greatest generation of an area with records of a version. After one of an older version one
+-- more generation has to follow, in the newest version.
 abbrev pub last_generation : RecordVersion → ℕ
 last_generation V1 = LAST_OLD_GENERATION
 last_generation V2 = LAST_GENERATION
 
 -- the contents of a disk, with records of a version, are those of a store with this table and
--- number: its superblock is in front, and its journal leads there
+-- number: the superblock stands at the beginning, and the journal leads there
 pub record Says (version : RecordVersion) (c : LogContents) (t : TableState)
     (seq : ℕ) : Type 0 where
   pub net_id : t.net_id < 64

@@ -1,5 +1,5 @@
--- What is answered where a store is made on a disk, and where one is opened. An error has the
--- refusal that `refusal_of` gives of it, and may have the disk beside it.
+-- What is returned when a store is made on a disk, and when one is opened. An error contains the
+-- refusal that `refusal_of` gives for it, and may contain the disk.
 use Rattle.std.specs.Prelude.{◌≡◌, ◌≢◌, ℕ, false, Result, IfOk, IfErr, IsErrAnd, MatchResult}
 use Rattle.std.specs.Prelude.{length}
 use Rattle.lw_types.specs.declared.refusal.Refusal.{Refusal}
@@ -49,6 +49,6 @@ pub record IsOpenAnswer {D E : Type 0} (disk : Ghosts D) (at : D) (refusal_of : 
   pub unarmed : disk.outlook at ≡ AllSucceed → MatchResult result
       (λ store. disk.outlook (disk_of store) ≡ AllSucceed)
       (λ e. refusal_of e ≢ DeviceFailed)
-  -- the first call comes before all else
+  -- the first call comes before everything else
   pub fails : disk.outlook at ≡ FailsAfter 0
       → IsErrAnd result (λ e. refusal_of e ≡ DeviceFailed)

@@ -1,4 +1,4 @@
--- What the disk of a store holds while a second batch is under way behind one whose gate is open.
+-- What the disk of a store holds while a second batch is under way after one whose gate is open.
 use Rattle.std.specs.Prelude.{◌≡◌, ◌≤◌, ◌+◌, ℕ}
 use Rattle.gate_log.specs.Areas.{LogContents, contents_with_batch}
 use Rattle.gate_log.specs.Layout.{BatchValue}
@@ -32,7 +32,7 @@ following_sequel paired = sequel_of paired.following
 abbrev pub following_size : Paired → ℕ
 following_size paired = log_paired_next_size paired.phase
 
--- the largest batch fits behind the batch under way
+-- the largest batch fits after the batch under way
 abbrev pub IsRoomyBehind : StoreState → GateWritten → Type 0
 IsRoomyBehind s opened =
     s.log.next + gate_written_size opened + LARGEST_BATCH ≤ s.log.areas.live.end
@@ -47,13 +47,13 @@ MayFollowBehind s opened begun =
     MayFollow (tip_behind s (gate_written_sequel opened) (gate_written_size opened))
     (begun_sequel begun) (begun_size begun)
 
--- both batches are on their way in this store, the second behind the first
+-- both batches are under way in this store, the second after the first
 pub record AreUnderWay (s : StoreState) (paired : Paired) : Type 0 where
   pub first : IsUnderWay s (paired_sequel paired) (paired_size paired)
   pub second : MayFollow (tip_behind s (paired_sequel paired) (paired_size paired))
       (following_sequel paired) (following_size paired)
 
--- whatever contents say this table and number, with the batch they say what the sequel leaves
+-- if contents say this table and number, then with the batch they say what the sequel leaves
 pub record Extends (t : TableState) (seq : ℕ) (sequel : Sequel)
     (b : BatchValue) : Type 0 where
   pub slots : (with_decisions t sequel.decisions).slots ≡ t.slots

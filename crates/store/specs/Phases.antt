@@ -26,8 +26,8 @@ begun_sequel begun = sequel_of begun.commit
 abbrev pub begun_size : Begun → ℕ
 begun_size begun = length (bytes_of begun.phase)
 
--- its bytes are one entry for each decision of the batch, in order, behind the batch's last number
--- and how many they are
+-- its bytes are one entry for each decision of the batch, in order, after the batch's last number
+-- and the number of entries
 abbrev pub HasEntries : Begun → Type 0
 HasEntries begun =
     (entries : List ℕ) × SpellsEntriesOf newest begun.commit.batch entries
@@ -93,7 +93,7 @@ pub record IsBodySyncedOn (s : StoreState) (phase : BodySynced) : Type 0 where
   pub journals : Journals s (body_synced_sequel phase) contents batch
   pub log : IsBodySynced s.log contents batch (body_synced_size phase)
 
--- its gate is open, and may be torn
+-- its gate is open, and that write may be torn
 pub record IsGateWrittenOn (s : StoreState) (phase : GateWritten) : Type 0 where
   pub contents : LogContents
   pub batch : BatchValue

@@ -15,7 +15,7 @@ use Rattle.store.specs.declared.publishing.Publishing.TheVariants.{Begun, Retiri
 use Rattle.store.specs.declared.publishing.Publishing.TheVariants.{Synced, Opened}
 use Rattle.store.specs.declared.store.Store.{Store}
 
--- how many of its device calls are left: two more where the other area's gate has to be closed
+-- the number of its device calls that are left: two more if the other area's gate has to be closed
 -- first
 abbrev pub calls_left : StoreState → Publishing → ℕ
 calls_left s (Begun phase) = if s.log.other_open then 6 else 4
@@ -24,7 +24,7 @@ calls_left s (Written phase) = 3
 calls_left s (Synced phase) = 2
 calls_left s (Opened phase) = 1
 
--- how far behind the other area's gate that of the first batch will stand
+-- the number of bytes from the other area's gate to where the gate of the first batch will stand
 abbrev pub publishing_size : Publishing → ℕ
 publishing_size (Begun phase) = checkpoint_size phase
 publishing_size (Retiring phase) = retiring_size phase
@@ -40,7 +40,7 @@ IsPublishingOn s (Written phase) = IsCheckpointWrittenOn s phase
 IsPublishingOn s (Synced phase) = IsCheckpointSyncedOn s phase
 IsPublishingOn s (Opened phase) = IsCheckpointOpenedOn s phase
 
--- the same after one of its calls, which may have been the last
+-- the same after one of its calls, which may have been the last one
 abbrev pub IsPublishedOn : StoreState → Option Publishing → Type 0
 IsPublishedOn s None = IsSettled s
 IsPublishedOn s (Some next) = IsPublishingOn s next
@@ -59,8 +59,8 @@ abbrev pub generation_of : ℕ → Option Publishing → ℕ
 generation_of before None = before + 1
 generation_of before (Some next) = before
 
--- One device call of a checkpoint: the store keeps its table and its number, in every image too,
--- and one call less is left.
+-- One device call of a checkpoint: the store keeps its table and its number, also in every image,
+-- and one call fewer is left.
 pub record IsPublishingCall {D : Type 0} (disk : Ghosts D) (old : Store D disk)
     (publishing : Publishing) (result : Result (Option Publishing) Refusal)
     (new : Store D disk) : Type 0 where

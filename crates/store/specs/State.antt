@@ -33,7 +33,7 @@ store_state state store =
       failed = store.failed;
     }
 
--- the largest batch fits behind the next gate
+-- the largest batch fits after the next gate
 abbrev pub IsRoomy : StoreState → Type 0
 IsRoomy s = s.log.next + LARGEST_BATCH ≤ s.log.areas.live.end
 
@@ -48,38 +48,39 @@ abbrev pub IsOld : List ℕ → Type 0
 IsOld image =
     (t : TableState) × ((seq : ℕ) × ((x : HoldsTable t seq image) × (x.version ≢ newest)))
 
--- whatever a crash leaves of this disk holds the store's table and number
+-- each image that a crash may leave of this disk holds the store's table and number
 abbrev pub EachImageHolds : StoreState → State → Type 0
 EachImageHolds s disk = EveryImage disk (HoldsTable s.table s.seq)
 
--- a call leaves what a store holds: the table, its number and, where it succeeded, the generation
+-- what a call keeps of a store: the table, its number and, if the call succeeded, the generation
 pub record KeepsTable {T : Type 0} (old new : StoreState) (result : Result T Refusal) : Type 0 where
   pub table : new.table ≡ old.table
   pub seq : new.seq ≡ old.seq
   pub generation : OnOk result (new.log.generation ≡ old.log.generation)
 
--- a store that was opened: it has what the disk held, and no other table was there; nothing was
--- written but where the records were of an older version
+-- a store that was opened: it has what the disk held, and the disk held no other table; the disk
+-- was written only if the records were of an older version
 pub record IsOpened (content : List ℕ) (s : StoreState) : Type 0 where
   pub settled : IsSettled s
   pub was : HoldsTable s.table s.seq content
   pub only : (t : TableState) (seq : ℕ) → HoldsTable t seq content → (t ≡ s.table) × (seq ≡ s.seq)
   pub same : ¬ (IsOld content) → s.log.disk.content ≡ content
 
--- whatever table the bytes hold, each image of the disk holds
+-- each image of the disk holds each table that the bytes hold
 abbrev pub StillHolds : List ℕ → State → Type 0
 StillHolds bytes disk =
     (t : TableState) (seq : ℕ) → HoldsTable t seq bytes → EveryImage disk (HoldsTable t seq)
 
--- Whatever a crash leaves of the new disk holds each table that one of the images of the old one
--- held: so what is known of the tables in all of these is known of what is left now.
+-- Each image that a crash may leave of the new disk holds the tables of some image that a crash
+-- might have left of the old one. So what is known of the tables in all images of the old disk is
+-- known of what is left now.
 abbrev pub HoldsOn : State → State → Type 0
 HoldsOn old new =
     EveryImage new (λ image. (was : List ℕ) × (IsPermitted old was
     × ((t : TableState) (seq : ℕ) → HoldsTable t seq was → HoldsTable t seq image)))
 
--- one call of the store's disk: an error is the device's, comes exactly where that failed, and
--- fails the store
+-- one call of the store's disk: an error is the device's, is returned exactly if that failed, and
+-- makes the store fail
 pub record IsOneCall {D : Type 0} {g : _} {T : Type 0} (failures : D → ℕ) (outlook : D → Outlook)
     (old new : Store D g) (result : Result T Refusal) : Type 0 where
   pub cause : HasCause (failures (disk_of old)) (failures (disk_of new)) result

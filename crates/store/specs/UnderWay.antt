@@ -45,7 +45,7 @@ flights_in (Paired phase along behind) =
     ∷ flight Stage.Written (following_sequel phase).decisions ∷ []
 flights_in (Checkpoint phase) = []
 
--- what goes along with each of them
+-- what accompanies each of them
 abbrev pub along_in : {T : Type 0} → UnderWay T → List T
 along_in (Begun phase along) = along ∷ []
 along_in (Written phase along) = along ∷ []
@@ -55,13 +55,13 @@ along_in (Following opened along following behind) = along ∷ behind ∷ []
 along_in (Paired phase along behind) = along ∷ behind ∷ []
 along_in (Checkpoint phase) = []
 
--- how many device calls of a checkpoint are left
+-- the number of device calls of a checkpoint that are left
 abbrev pub checkpoint_calls : {T : Type 0} → StoreState → UnderWay T → ℕ
 checkpoint_calls s (Checkpoint phase) = calls_left s phase
 checkpoint_calls s under_way = 0
 
--- a batch on its way is a legal continuation of the store's table, or of the one that the batch in
--- front of it leaves, and there is room for it; so there is for a checkpoint
+-- a batch under way is a legal continuation of the store's table, or of the one that the batch
+-- before it leaves, and there is room for it; for a checkpoint there is room, too
 abbrev pub IsOnItsWay : {T : Type 0} → StoreState → UnderWay T → Type 0
 IsOnItsWay s (Begun phase along) = IsUnderWay s (begun_sequel phase) (begun_size phase)
 IsOnItsWay s (Written phase along) = IsUnderWay s (written_sequel phase) (written_size phase)
@@ -133,7 +133,7 @@ IsOnDiskAfter s (calls.UnderWay next) = IsOnDisk s next
 IsOnDiskAfter s (calls.Durable durable along behind) = IsOnDiskBehind s behind
 IsOnDiskAfter s calls.Published = IsSettled s
 
--- behind the oldest batch under way the journal goes on at this tip; behind a checkpoint it doesn't
+-- after the oldest batch under way the journal continues at this tip; after a checkpoint it doesn't
 abbrev pub HasTip : {T : Type 0} → Tip → StoreState → UnderWay T → Type 0
 HasTip tip s (Begun phase along) = tip ≡ tip_behind s (begun_sequel phase) (begun_size phase)
 HasTip tip s (Written phase along) = tip ≡ tip_behind s (written_sequel phase) (written_size phase)
@@ -147,7 +147,7 @@ HasTip tip s (Paired phase along behind) =
     tip ≡ tip_behind s (paired_sequel phase) (paired_size phase)
 HasTip tip s (Checkpoint phase) = ⊥
 
--- the same after a device call: behind a batch that is durable by it the store goes on there
+-- the same after a device call: if a batch became durable by it, the store continues there
 abbrev pub HasTipAfter : {T : Type 0} → Tip → StoreState → Called T → Type 0
 HasTipAfter tip s (calls.UnderWay next) = HasTip tip s next
 HasTipAfter tip s (calls.Durable durable along behind) = tip ≡ tip_of s
@@ -158,13 +158,12 @@ abbrev pub generation_after : {T : Type 0} → ℕ → Called T → ℕ
 generation_after before calls.Published = before + 1
 generation_after before called = before
 
--- what a device call that succeeded, or didn't, makes of batches
+-- what a device call, successful or not, makes of batches
 abbrev pub all_called : Bool → List (Flight Decision) → List (Flight Decision)
 all_called true flights = all_succeeded flights
 all_called false flights = all_failed flights
 
--- A store came to have these batches under way: it has the table and the number of those that are
--- durable.
+-- A store has these batches under way: it has the table and the number of those that are durable.
 pub record HasDurable (flights : List (Flight Decision)) (old new : StoreState) : Type 0 where
   pub table : new.table ≡ with_decisions old.table (durable_in [] flights)
   pub seq : new.seq ≡ old.seq + length (durable_in [] flights)
@@ -176,7 +175,7 @@ HoldsLeft s flights image =
     × HoldsTable (with_decisions s.table kept) (s.seq + length kept) image
 
 -- One device call of what is under way: each of its batches is a stage further, a durable one is on
--- the table, and whatever a crash leaves holds what it may leave by these stages.
+-- the table, and each image that a crash may leave holds what these stages allow.
 pub record IsNextCall {D T : Type 0} (disk : Ghosts D) (old : Store D disk) (under_way : UnderWay T)
     (result : Result (Called T) Refusal) (new : Store D disk) : Type 0 where
   pub flights : IfOk result

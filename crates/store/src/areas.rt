@@ -11,8 +11,8 @@ pub const RECORD_VERSION: u8 = 2;
 /// The greatest generation of an area.
 pub const LAST_GENERATION: u64 = (1 << 63) - 1;
 
-/// The greatest generation of an area with records of an older version: it has to be followed by
-/// one more.
+/// The greatest generation of an area with records of an older version. One more generation has to
+/// follow it.
 pub const LAST_OLD_GENERATION: u64 = LAST_GENERATION - 1;
 
 /// The greatest generation of an area with records of a version.
@@ -25,7 +25,7 @@ pub(crate) fn last_generation(version: RecordVersion) -> u64
     }
 }
 
-/// The area behind the superblock.
+/// The area after the superblock.
 pub(crate) fn first_area(superblock: &Superblock) -> Area
     ensures { result ≡ area_a superblock.now.slots }
 {
@@ -36,7 +36,7 @@ pub(crate) fn first_area(superblock: &Superblock) -> Area
     }
 }
 
-/// The area behind the first one.
+/// The area after the first one.
 pub(crate) fn second_area(superblock: &Superblock) -> Area
     ensures { result ≡ area_b superblock.now.slots }
 {

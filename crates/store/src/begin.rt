@@ -16,20 +16,19 @@ use sessions::{Batch, Decision, PlacedBatch};
 use std::alloc::Global;
 use store_layout::{laws, put_batch};
 
-// The bytes that the entries of a batch mostly fit into.
+// The number of bytes that is enough for the entries of most batches.
 const USUAL_ENTRIES: usize = 1024;
 
 impl<D: Disk> Store<D> {
     ghost use Rattle.store.specs.State.{store_state, disk_of, IsRoomy, IsSettled};
 
     /// Begins the commit of a batch, on a store with room for it and nothing under way. Refused
-    /// with `Failed` exactly where an earlier call of the disk failed, else with `OutOfStep`
-    /// exactly where the batch is no legal continuation of the durable table, and with
-    /// `OutOfMemory` for want of memory, where it is one. A refusal gives the batch up and leaves
-    /// the store and the disk. All the memory that the commit needs is taken here. No record is
-    /// copied; the batch's entries are appended straight to the bytes that go to the disk, which
-    /// move only where they outgrow the usual room of 1,024. The cost doesn't grow with the number
-    /// of devices.
+    /// with `Failed` exactly if an earlier call of the disk failed, else with `OutOfStep` exactly
+    /// if the batch is no legal continuation of the durable table. Refused with `OutOfMemory` if it
+    /// is one and memory runs out. A refusal gives the batch up and leaves the store and the disk
+    /// unchanged. All the memory that the commit needs is allocated here. No record is copied: the
+    /// batch's entries are appended straight to the bytes that go to the disk, which move only if
+    /// they outgrow the usual room of 1,024. The cost doesn't grow with the number of devices.
     pub fn begin(&mut self, alloc: Global, batch: Batch) -> Result<Begun, Refusal>
         requires roomy { IsRoomy (store_state D.state self.old) }
         ensures same { store_state D.state self.new ≡ store_state D.state self.old }
@@ -59,8 +58,8 @@ impl<D: Disk> Store<D> {
         self.begun_of(alloc, commit)
     }
 
-    // The batch with its last number, behind `earlier` decisions that end with the number `seq`,
-    // and room for it behind its records.
+    // The batch with its last number, after `earlier` decisions that end with the number `seq`, and
+    // room for it after its records.
     pub(crate) fn commit_of(
         &self,
         alloc: Global,

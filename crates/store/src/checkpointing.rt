@@ -17,7 +17,7 @@ pub struct Checkpoint {
     pub(crate) phase: gate_log::Checkpoint,
 }
 
-/// A checkpoint for which the other area's gate is closed, which may be torn.
+/// A checkpoint for which the other area's gate is closed. That write may be torn.
 pub struct Retiring {
     phase: gate_log::Retiring,
     checkpoint: gate_log::Checkpoint,
@@ -28,19 +28,19 @@ pub struct CheckpointWritten {
     phase: gate_log::CheckpointWritten,
 }
 
-/// A checkpoint that is on the disk, behind its closed gate.
+/// A checkpoint that is on the disk, after its closed gate.
 pub struct CheckpointSynced {
     phase: gate_log::CheckpointSynced,
 }
 
-/// A checkpoint whose gate is open, and may be torn.
+/// A checkpoint whose gate is open. That write may be torn.
 pub struct CheckpointOpened {
     phase: gate_log::CheckpointOpened,
 }
 
 impl Checkpoint {
-    /// Closes the other area's gate, which is open. Refused with `DeviceFailed` exactly where the
-    /// disk failed; then the store has failed.
+    /// Closes the other area's gate, which is open. Refused with `DeviceFailed` exactly if the disk
+    /// failed. Then the store has failed.
     pub fn retire<D: Disk>(self, store: &mut Store<D>) -> Result<Retiring, Refusal>
         requires open { (store_state D.state store.old).log.other_open ≡ true }
         requires fits { FitsOther (store_state D.state store.old) (checkpoint_size self) }
@@ -65,8 +65,9 @@ impl Checkpoint {
     }
 
     /// Writes the checkpoint and the closed gate of its first batch into the other area, whose gate
-    /// is closed: as many bytes as the table has records, and no more. Refused with `DeviceFailed`
-    /// exactly where the disk failed; then the store has failed.
+    /// is closed. The number of bytes grows only with the table's records: slots without a record
+    /// take none. Refused with `DeviceFailed` exactly if the disk failed. Then the store has
+    /// failed.
     pub fn write<D: Disk>(self, store: &mut Store<D>) -> Result<CheckpointWritten, Refusal>
         requires closed { (store_state D.state store.old).log.other_open ≡ false }
         requires fits { FitsOther (store_state D.state store.old) (checkpoint_size self) }
@@ -87,7 +88,7 @@ impl Checkpoint {
         }
     }
 
-    /// Lets the checkpoint go, at a crash.
+    /// Drops the checkpoint at a crash.
     pub fn lose(self) {
         let Checkpoint { phase } = self;
         phase.lose();
@@ -95,8 +96,8 @@ impl Checkpoint {
 }
 
 impl Retiring {
-    /// Syncs the other area's closed gate. Afterwards the checkpoint may be written. Refused with
-    /// `DeviceFailed` exactly where the disk failed; then the store has failed.
+    /// Syncs the other area's closed gate. After that the checkpoint may be written. Refused with
+    /// `DeviceFailed` exactly if the disk failed. Then the store has failed.
     pub fn sync<D: Disk>(self, store: &mut Store<D>) -> Result<Checkpoint, Refusal>
         requires fits { FitsOther (store_state D.state store.old) (retiring_size self) }
         ensures next { D.honest → IsRetiringOn (store_state D.state store.old) self
@@ -120,7 +121,7 @@ impl Retiring {
         }
     }
 
-    /// Lets the checkpoint go, at a crash.
+    /// Drops the checkpoint at a crash.
     pub fn lose(self) {
         let Retiring { phase, checkpoint } = self;
         phase.lose();
@@ -129,8 +130,8 @@ impl Retiring {
 }
 
 impl CheckpointWritten {
-    /// Syncs the checkpoint. Refused with `DeviceFailed` exactly where the disk failed; then the
-    /// store has failed.
+    /// Syncs the checkpoint. Refused with `DeviceFailed` exactly if the disk failed. Then the store
+    /// has failed.
     pub fn sync<D: Disk>(self, store: &mut Store<D>) -> Result<CheckpointSynced, Refusal>
         requires fits { FitsOther (store_state D.state store.old) (checkpoint_written_size self) }
         ensures next { D.honest → IsCheckpointWrittenOn (store_state D.state store.old) self
@@ -150,7 +151,7 @@ impl CheckpointWritten {
         }
     }
 
-    /// Lets the checkpoint go, at a crash.
+    /// Drops the checkpoint at a crash.
     pub fn lose(self) {
         let CheckpointWritten { phase } = self;
         phase.lose();
@@ -158,7 +159,7 @@ impl CheckpointWritten {
 }
 
 impl CheckpointSynced {
-    /// Opens the checkpoint's gate. Refused with `DeviceFailed` exactly where the disk failed; then
+    /// Opens the checkpoint's gate. Refused with `DeviceFailed` exactly if the disk failed. Then
     /// the store has failed.
     pub fn open_gate<D: Disk>(self, store: &mut Store<D>) -> Result<CheckpointOpened, Refusal>
         requires fits { FitsOther (store_state D.state store.old) (checkpoint_synced_size self) }
@@ -179,7 +180,7 @@ impl CheckpointSynced {
         }
     }
 
-    /// Lets the checkpoint go, at a crash.
+    /// Drops the checkpoint at a crash.
     pub fn lose(self) {
         let CheckpointSynced { phase } = self;
         phase.lose();
@@ -187,9 +188,9 @@ impl CheckpointSynced {
 }
 
 impl CheckpointOpened {
-    /// Syncs the checkpoint's gate. Afterwards its area is the live one, and has room for the
-    /// largest batch. Refused with `DeviceFailed` exactly where the disk failed; then the
-    /// store has failed.
+    /// Syncs the checkpoint's gate. After that its area is the live one, and has room for the
+    /// largest batch. Refused with `DeviceFailed` exactly if the disk failed. Then the store has
+    /// failed.
     pub fn sync<D: Disk>(self, store: &mut Store<D>) -> Result<(), Refusal>
         requires fits { FitsOther (store_state D.state store.old) (checkpoint_opened_size self) }
         ensures settled { D.honest → IsCheckpointOpenedOn (store_state D.state store.old) self
@@ -213,7 +214,7 @@ impl CheckpointOpened {
         }
     }
 
-    /// Lets the checkpoint go, at a crash.
+    /// Drops the checkpoint at a crash.
     pub fn lose(self) {
         let CheckpointOpened { phase } = self;
         phase.lose();

@@ -1,10 +1,10 @@
-// A batch on its way.
+// A batch under way.
 ghost use Rattle.std.specs.Prelude.{◌≡◌, []};
 
 use sessions::{Batch, PlacedBatch};
 
-/// A batch on its way, the number of its last decision, and the room for its decisions behind their
-/// records, with which these are moved onto the table without memory.
+/// A batch under way, the number of its last decision, and the room for its decisions after their
+/// records. With that room they are moved onto the table without memory.
 #[derive(Drop)]
 pub(crate) struct Commit {
     pub(crate) batch: Batch,

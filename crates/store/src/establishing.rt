@@ -1,4 +1,4 @@
-// Makes a store that has a table from the start.
+// Makes a store that has a table from the beginning.
 ghost use Rattle.std.specs.Prelude.{◌≡◌, ◌≢◌, ◌⊎◌, ◌<◌, ◌≤◌, ◌+◌, false, ℕ, List, length, IfErr};
 ghost use Rattle.std.specs.Prelude.{IfOk, MatchResult};
 ghost use Rattle.disk.specs.Outlook.Outlook.{AllSucceed};
@@ -27,14 +27,14 @@ use sessions::Table;
 use std::alloc::Global;
 use store_layout::Superblock;
 
-/// Makes a store with this table, and this number of its last decision. Refused with `WrongSize`
-/// exactly where the disk hasn't the length of such a store, else with `DeviceFailed` exactly where
-/// a call of the disk failed, and with `OutOfMemory` for want of memory, before any call. With a
-/// refusal the disk comes back, as it was but for `DeviceFailed`. It makes twelve calls of the
-/// disk, and its cost grows with the table's records and with the number of slots.
+/// Makes a store with this table and this number of its last decision. Refused with `WrongSize`
+/// exactly if the disk doesn't have the length of such a store, else with `DeviceFailed` exactly if
+/// a call of the disk failed, and with `OutOfMemory` if memory runs out, before any call. With a
+/// refusal the disk is returned, unchanged except after `DeviceFailed`. It makes twelve calls of
+/// the disk, and its cost grows with the table's records and with the number of slots.
 ///
-/// Whatever a crash leaves of a disk on which it failed, or was cut between two calls: no store,
-/// the whole one, or all but the first byte as it was.
+/// On a disk with nothing open: if this fails, or is interrupted between two calls, a crash leaves
+/// no store, the whole one, or everything after the first byte as it was.
 pub fn establish_back<D: Disk>(
     alloc: Global,
     disk: D,
@@ -112,8 +112,8 @@ fn exchanged(areas: Areas) -> Areas
     }
 }
 
-// Publishes a checkpoint behind the superblock's closed gate, and opens that. The areas are those
-// of then.
+// Publishes a checkpoint after the superblock's closed gate, and opens that gate. `areas` are those
+// of the log at the end.
 fn publish_behind<D: Disk>(log: Log<D>, checkpoint: Checkpoint, areas: Areas) -> Result<Log<D>, D>
     requires exchanged { exchanged_areas (log_state D.state log).areas ≡ areas }
     requires some { 1 ≤ length (D.state (log_disk log)).content }
@@ -143,7 +143,7 @@ fn publish_behind<D: Disk>(log: Log<D>, checkpoint: Checkpoint, areas: Areas) ->
     }
 }
 
-// Opens the superblock's gate in front of a log with these areas.
+// Opens the superblock's gate, with a log in these areas after it.
 fn open_behind<D: Disk>(log: Log<D>, areas: Areas) -> Result<Log<D>, D>
     requires areas { (log_state D.state log).areas ≡ areas }
     requires some { 1 ≤ length (D.state (log_disk log)).content }

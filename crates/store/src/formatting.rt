@@ -48,14 +48,14 @@ pub fn format<D: Disk + Drop>(
     }
 }
 
-/// Makes a store without devices. Refused with `Damaged` exactly where `slots` is not from 1 to
-/// 4,096, else with `WrongSize` exactly where the disk hasn't the length of such a store, else with
-/// `DeviceFailed` exactly where a call of the disk failed, and with `OutOfMemory` for want of
-/// memory, before any call. With a refusal the disk comes back, as it was but for `DeviceFailed`.
-/// It makes eight calls of the disk, and its cost grows with the number of slots.
+/// Makes a store without devices. Refused with `Damaged` exactly if `slots` is not from 1 to 4,096.
+/// Otherwise refused with `WrongSize` exactly if the disk doesn't have the length of such a store,
+/// else with `DeviceFailed` exactly if a call of the disk failed. Refused with `OutOfMemory` if
+/// memory runs out, before any call. With a refusal the disk is returned, unchanged except after
+/// `DeviceFailed`. It makes eight calls of the disk, and its cost grows with the number of slots.
 ///
-/// Whatever a crash leaves of a disk on which it failed, or was cut between two calls: no store,
-/// the new one, or all but the first byte as it was.
+/// On a disk with nothing open: if this fails, or is interrupted between two calls, a crash leaves
+/// no store, the new one, or everything after the first byte as it was.
 pub fn format_back<D: Disk>(
     alloc: Global,
     disk: D,
@@ -92,8 +92,8 @@ pub fn format_back<D: Disk>(
     }
 }
 
-// Writes a store without devices, and gives the place of the first batch's gate. The superblock's
-// gate is closed first and opened last, when all else is on the disk.
+// Writes a store without devices, and returns the place of the first batch's gate. The superblock's
+// gate is closed first, and opened last, when everything else is on the disk.
 fn write_empty<D: Disk>(disk: &mut D, superblock: &Superblock) -> Result<u64, disk::DeviceFailed>
     requires { length (D.state disk.old).content ≡ disk_len superblock.now.slots }
     ensures area { D.honest → OnOk result (HoldsIn (area_a superblock.now.slots)
@@ -119,8 +119,8 @@ fn write_empty<D: Disk>(disk: &mut D, superblock: &Superblock) -> Result<u64, di
     Ok(next)
 }
 
-// Writes all but the superblock's open gate, and syncs it: behind the closed gate no store is
-// there.
+// Writes all except the superblock's open gate, and syncs it. While that gate is closed the disk
+// holds no store.
 pub(crate) fn write_shut<D: Disk>(
     disk: &mut D,
     superblock: &Superblock,
@@ -186,7 +186,7 @@ pub(crate) fn open_front<D: Disk>(disk: &mut D) -> Result<(), disk::DeviceFailed
     disk.sync()
 }
 
-// Writes the superblock behind its gate, and the gates of both areas.
+// Writes the superblock after its gate, and the gates of both areas.
 fn write_closed<D: Disk>(disk: &mut D, superblock: &Superblock) -> Result<u64, disk::DeviceFailed>
     requires { length (D.state disk.old).content ≡ disk_len superblock.now.slots }
     ensures area { D.honest → OnOk result (HoldsIn (area_a superblock.now.slots)

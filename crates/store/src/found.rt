@@ -1,4 +1,4 @@
-// What was read of a disk that is opened.
+// What was read from a disk that is being opened.
 ghost use Rattle.std.specs.Prelude.{◌≡◌, ◌<◌, ◌≤◌};
 ghost use Rattle.store.specs.Image.{HaveLength, last_generation};
 

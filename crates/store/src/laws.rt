@@ -1,5 +1,5 @@
-//! What follows from a store's definitions alone. The functions do nothing: their contracts are the
-//! laws.
+//! What follows from a store's definitions alone. These functions do nothing: their contracts are
+//! the laws.
 ghost use Rattle.std.specs.Prelude.{◌≡◌, ◌+◌, ◌^◌, ℕ, List};
 ghost use Rattle.disk.specs.State.{EveryImage};
 ghost use Rattle.sessions.specs.Marks.{IsSound};
@@ -9,15 +9,16 @@ ghost use Rattle.store.specs.State.{StoreState, IsSettled};
 
 use crate::{LARGEST_BATCH, LAST_GENERATION, LAST_OLD_GENERATION, RECORD_VERSION};
 
-/// A store with nothing under way is what every crash leaves.
+/// If a store has nothing under way, each image that a crash may leave of its disk holds its table
+/// and its number.
 pub fn a_settled_store_is_on_its_disk()
     ensures { (s : StoreState) → IsSettled s → EveryImage s.log.disk (HoldsTable s.table s.seq) }
 {
     disk::laws::settled_disk_keeps_its_content();
 }
 
-/// Whatever table an image holds, in records of whatever version, is sound: each DevEUI stands at
-/// one slot, and the sessions of each device are in order.
+/// Each table that an image holds, in records of any version, is sound: each DevEUI stands at one
+/// slot, and the sessions of each device are in order.
 pub fn what_is_held_is_sound()
     ensures { (t : TableState) (seq : ℕ) (image : List ℕ) → HoldsTable t seq image → IsSound t }
 {
@@ -25,7 +26,7 @@ pub fn what_is_held_is_sound()
     store_layout::laws::entries_lead_to_sound_tables();
 }
 
-/// The bytes that the largest batch takes, the greatest generation of an area, also in records of
+/// The size of the largest batch, the greatest generation of an area, in general and for records of
 /// an older version, and the version of a new store's records.
 pub fn limits_are_these()
     ensures largest { LARGEST_BATCH ≡ 275536 }

@@ -1,8 +1,8 @@
-//! The durable state of a network: a table of devices and the number of its last decision, kept on
-//! a disk as a checkpoint and batches of decisions behind it.
+//! The durable state of a network: a table of devices and the number of its last decision. A disk
+//! keeps it as a checkpoint and the batches of decisions after it.
 //!
-//! Whatever a crash leaves, the disk holds the table that a beginning of the committed decisions
-//! leaves, and it ends where a batch ended.
+//! Each image that a crash may leave holds the table that the first n committed decisions leave,
+//! for some n at which a batch ended.
 #![tactic(auto)]
 
 mod areas;

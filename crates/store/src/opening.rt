@@ -31,32 +31,41 @@ pub fn open<D: Disk + Drop>(alloc: Global, disk: D) -> Result<Store<D>, Refusal>
     }
 }
 
-/// Opens the store on a disk. The disk is synced first, so that opening it again after a fault is
-/// like opening it after a crash that leaves the content. Refused with `DeviceFailed` exactly where
-/// a call of the disk failed; else the store has the table and the number that the disk holds, or,
-/// exactly where it holds none, the refusal is the first of these: `WrongSize` below 32 bytes,
-/// `NotFormatted` for a closed gate or another name, `WrongVersion` for another version, `Damaged`
-/// for another field out of range, `WrongSize` for another length than the superblock's, `Damaged`
-/// where no area is live (the gates of both are closed, or both are open with one generation),
-/// `WrongVersion` for another version of the live area's records, and `Damaged` for all else that
-/// is wrong there; of the other area only the gate and the generation count. `OutOfMemory` comes
-/// for want of memory, and only where the superblock and the live area's header are in order. With
-/// a refusal the disk comes back. The cost grows with the bytes of the live area's journal.
+/// Opens the store on a disk. The disk is synced first, so opening it again after a fault is like
+/// opening it after a crash that leaves the content. Refused with `DeviceFailed` exactly if a call
+/// of the disk failed. Otherwise a store that is returned has the table and the number that the
+/// disk holds. If the disk holds none, the refusal is `OutOfMemory` (see below) or the first of
+/// these:
 ///
-/// Where the live area's records are of an older version, the table is published in the other area
-/// in the newest one before the store is given, by four calls of the disk more, or six. Whatever a
-/// crash leaves between two of them holds the same table and number, and so does the disk that
-/// comes back with a refusal.
+/// - `WrongSize` below 32 bytes;
+/// - `NotFormatted` for a closed gate or another name;
+/// - `WrongVersion` for another version;
+/// - `Damaged` for another field out of range;
+/// - `WrongSize` for another length than the superblock's;
+/// - `Damaged` if no area is live (the gates of both are closed, or both are open with the same
+///   generation);
+/// - `WrongVersion` for another version of the live area's records;
+/// - `Damaged` for anything else that is wrong there. Of the other area only the gate and the
+///   generation count.
+///
+/// `OutOfMemory` is returned if memory runs out, and only if the superblock and the live area's
+/// header are in order. With a refusal the disk is returned. The cost grows with the bytes of the
+/// live area's journal.
+///
+/// If the live area's records are of an older version, the table is published in the other area, in
+/// the newest version, before the store is returned. That takes four or six more calls of the disk.
+/// A crash between two of them leaves the same table and number, and the disk that is returned with
+/// a refusal holds them too.
 pub fn open_back<D: Disk>(alloc: Global, disk: D) -> Result<Store<D>, (D, Refusal)>
     ensures made { IsOpenAnswer D.Disk disk (λ error. error.1) result }
 
-    // What the disk that comes back is like.
+    // What the returned disk is like.
     ensures device { IfErr result (λ e. (e.1 ≡ DeviceFailed → D.failures e.0 ≡ D.failures disk + 1)
         × (e.1 ≢ DeviceFailed → D.failures e.0 ≡ D.failures disk)) }
     ensures unarmed { D.outlook disk ≡ AllSucceed
         → IfErr result (λ e. D.outlook e.0 ≡ AllSucceed) }
 
-    // One failure is one failure.
+    // An armed failure is used up.
     ensures fails { D.outlook disk ≡ FailsAfter 0
         → IfErr result (λ e. D.outlook e.0 ≡ AllSucceed) }
     ensures armed { IsArmed (D.outlook disk) → MatchResult result
@@ -64,13 +73,13 @@ pub fn open_back<D: Disk>(alloc: Global, disk: D) -> Result<Store<D>, (D, Refusa
         (λ e. (e.1 ≡ DeviceFailed → D.outlook e.0 ≡ AllSucceed)
         × (e.1 ≢ DeviceFailed → IsArmed (D.outlook e.0))) }
 
-    // Nothing is written but where the records are of an older version.
+    // The disk is written only if the records are of an older version.
     ensures same { D.honest → ¬ (IsOld (D.state disk).content)
         → IfErr result (λ e. (D.state e.0).content ≡ (D.state disk).content) }
     ensures still { D.honest → ¬ (IsOld (D.state disk).content) → NothingOpen (D.state disk)
         → IfErr result (λ e. NothingOpen (D.state e.0)) }
 
-    // Then nothing is open, once the sync has succeeded.
+    // Then nothing is open once the sync has succeeded.
     ensures settled { D.honest → ¬ (IsOld (D.state disk).content) → IfErr result
         (λ e. NothingOpen (D.state e.0)
         ⊎ ((e.1 ≡ DeviceFailed) × (D.state e.0 ≡ D.state disk))) }
@@ -79,8 +88,9 @@ pub fn open_back<D: Disk>(alloc: Global, disk: D) -> Result<Store<D>, (D, Refusa
     ensures memory { D.honest → IfErr result (λ e. e.1 ≢ DeviceFailed
         → NothingOpen (D.state e.0) × ((D.state e.0).content ≡ (D.state disk).content)) }
 
-    // Whatever a crash leaves of it holds what one might have left of the disk before: so a store
-    // whose opening was refused can be opened again, with a crash between or without one.
+    // Each image that a crash may leave of it holds the tables of some image that a crash might
+    // have left of the disk before. So a store whose opening was refused can be opened again, with
+    // or without a crash between.
     ensures kept { D.honest → IfErr result (λ e. HoldsOn (D.state disk) (D.state e.0)) }
     ensures same_length { IfErr result
         (λ e. length (D.state e.0).content ≡ length (D.state disk).content) }
@@ -98,8 +108,8 @@ pub fn open_back<D: Disk>(alloc: Global, disk: D) -> Result<Store<D>, (D, Refusa
 }
 
 impl Found {
-    /// The store with what was found on this disk, where its records are of the newest version, and
-    /// else behind a checkpoint that takes it over.
+    /// The store with what was found on this disk: as it is if its records are of the newest
+    /// version, otherwise after a checkpoint that takes it over.
     pub(crate) fn open<D: Disk>(
         self,
         alloc: Global,

@@ -23,7 +23,7 @@ use sessions::Batch;
 use std::alloc::Global;
 use store_layout::laws;
 
-/// A batch whose gate is open, and behind it the body of the following one; both may be torn.
+/// A batch whose gate is open, and after it the body of the following one. Both may be torn.
 pub struct Paired {
     phase: gate_log::Paired,
     commit: Commit,
@@ -31,7 +31,7 @@ pub struct Paired {
 }
 
 impl<D: Disk> Store<D> {
-    /// Whether the largest batch fits into the journal behind a batch under way: its bytes and
+    /// Whether the largest batch fits into the journal after a batch under way: its bytes and
     /// [`LARGEST_BATCH`] are left there.
     pub fn roomy_next(&self, under_way: &GateWritten) -> bool
         ensures { IsTrue result ↔ IsRoomyBehind (store_state D.state self.now) under_way.now }
@@ -40,12 +40,12 @@ impl<D: Disk> Store<D> {
         room >= LARGEST_BATCH && room - LARGEST_BATCH >= under_way.phase.size()
     }
 
-    /// Begins the commit of a batch behind one whose gate is written, on a store with room for it
-    /// there and no other under way. Refused with `Failed` exactly where an earlier call of the
-    /// disk failed, else with `OutOfStep` exactly where the batch is no legal continuation of the
-    /// table that the batch under way leaves, and with `OutOfMemory` for want of memory, where it
-    /// is one. A refusal gives this batch up, and the one under way goes on. All the memory that
-    /// the commit needs is taken here. The cost doesn't grow with the number of devices.
+    /// Begins the commit of a batch after one whose gate is written, on a store with room for it
+    /// there and no other batch under way. Refused with `Failed` exactly if an earlier call of the
+    /// disk failed, else with `OutOfStep` exactly if the batch is no legal continuation of the
+    /// table that the batch under way leaves. Refused with `OutOfMemory` if it is one and memory
+    /// runs out. A refusal gives this batch up, and the one under way goes on. All the memory that
+    /// the commit needs is allocated here. The cost doesn't grow with the number of devices.
     pub fn begin_next(
         &self,
         alloc: Global,
@@ -82,9 +82,9 @@ impl<D: Disk> Store<D> {
 }
 
 impl GateWritten {
-    /// Writes the body of the following batch and the closed gate behind it, before this batch's
+    /// Writes the body of the following batch and the closed gate after it, before this batch's
     /// gate is synced. The following batch's own gate stays closed, so no crash leaves that batch.
-    /// Refused with `DeviceFailed` exactly where the disk failed; then the store has failed.
+    /// Refused with `DeviceFailed` exactly if the disk failed. Then the store has failed.
     pub fn write_next<D: Disk>(
         self,
         following: Begun,
@@ -129,10 +129,10 @@ impl GateWritten {
 }
 
 impl Paired {
-    /// Syncs the first batch's gate and the following one's body. Afterwards the first batch is
-    /// durable, and the store has its table and its number. Refused with `DeviceFailed` exactly
-    /// where the disk failed; then the store has failed, and whether the first batch is on the disk
-    /// is found out by opening it again.
+    /// Syncs the first batch's gate and the following one's body. After that the first batch is
+    /// durable, and the store has its table and its number. Refused with `DeviceFailed` exactly if
+    /// the disk failed. Then the store has failed, and only opening it again shows whether the
+    /// first batch is on the disk.
     pub fn sync<D: Disk>(self, store: &mut Store<D>) -> Result<(Durable, BodySynced), Refusal>
         requires { AreUnderWay (store_state D.state store.old) self }
         ensures next { D.honest → IsPairedOn (store_state D.state store.old) self
@@ -184,7 +184,7 @@ impl Paired {
         }
     }
 
-    /// Lets both batches go, at a crash.
+    /// Drops both batches at a crash.
     pub fn lose(self) {
         let Paired {
             phase,

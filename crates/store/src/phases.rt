@@ -29,26 +29,26 @@ pub struct Written {
     commit: Commit,
 }
 
-/// A batch whose body is on the disk, behind its closed gate.
+/// A batch whose body is on the disk, after its closed gate.
 pub struct BodySynced {
     pub(crate) phase: gate_log::BodySynced,
     pub(crate) commit: Commit,
 }
 
-/// A batch whose gate is open, and may be torn.
+/// A batch whose gate is open. That write may be torn.
 pub struct GateWritten {
     pub(crate) phase: gate_log::GateWritten,
     pub(crate) commit: Commit,
 }
 
-/// A batch that every crash leaves. Its effects may leave.
+/// A batch that every crash leaves. Its effects may now leave.
 pub struct Durable {
     batch: PlacedBatch,
 }
 
 impl Begun {
     /// Writes the batch's body and the closed gate of the next batch. Refused with `DeviceFailed`
-    /// exactly where the disk failed; then the store has failed.
+    /// exactly if the disk failed. Then the store has failed.
     pub fn write<D: Disk>(self, store: &mut Store<D>) -> Result<Written, Refusal>
         requires { IsUnderWay (store_state D.state store.old) (begun_sequel self)
             (begun_size self) }
@@ -73,7 +73,7 @@ impl Begun {
         }
     }
 
-    /// Lets the batch go, at a crash.
+    /// Drops the batch at a crash.
     pub fn lose(self) {
         let Begun { phase, commit: _ } = self;
         phase.lose();
@@ -81,7 +81,7 @@ impl Begun {
 }
 
 impl Written {
-    /// Syncs the batch's body. Refused with `DeviceFailed` exactly where the disk failed; then the
+    /// Syncs the batch's body. Refused with `DeviceFailed` exactly if the disk failed. Then the
     /// store has failed.
     pub fn sync<D: Disk>(self, store: &mut Store<D>) -> Result<BodySynced, Refusal>
         requires { IsUnderWay (store_state D.state store.old) (written_sequel self)
@@ -108,7 +108,7 @@ impl Written {
         }
     }
 
-    /// Lets the batch go, at a crash.
+    /// Drops the batch at a crash.
     pub fn lose(self) {
         let Written { phase, commit: _ } = self;
         phase.lose();
@@ -116,7 +116,7 @@ impl Written {
 }
 
 impl BodySynced {
-    /// Opens the batch's gate. Refused with `DeviceFailed` exactly where the disk failed; then the
+    /// Opens the batch's gate. Refused with `DeviceFailed` exactly if the disk failed. Then the
     /// store has failed.
     pub fn open_gate<D: Disk>(self, store: &mut Store<D>) -> Result<GateWritten, Refusal>
         requires { IsUnderWay (store_state D.state store.old) (body_synced_sequel self)
@@ -145,7 +145,7 @@ impl BodySynced {
         }
     }
 
-    /// Lets the batch go, at a crash.
+    /// Drops the batch at a crash.
     pub fn lose(self) {
         let BodySynced { phase, commit: _ } = self;
         phase.lose();
@@ -153,9 +153,9 @@ impl BodySynced {
 }
 
 impl GateWritten {
-    /// Syncs the batch's gate. Afterwards the batch is durable, and the store has its table and its
-    /// number. Refused with `DeviceFailed` exactly where the disk failed; then the store has
-    /// failed, and whether the batch is on the disk is found out by opening it again.
+    /// Syncs the batch's gate. After that the batch is durable, and the store has its table and its
+    /// number. Refused with `DeviceFailed` exactly if the disk failed. Then the store has failed,
+    /// and only opening it again shows whether the batch is on the disk.
     pub fn sync<D: Disk>(self, store: &mut Store<D>) -> Result<Durable, Refusal>
         requires { IsUnderWay (store_state D.state store.old) (gate_written_sequel self)
             (gate_written_size self) }
@@ -194,7 +194,7 @@ impl GateWritten {
         }
     }
 
-    /// Lets the batch go, at a crash.
+    /// Drops the batch at a crash.
     pub fn lose(self) {
         let GateWritten { phase, commit: _ } = self;
         phase.lose();
@@ -228,7 +228,8 @@ impl<D: Disk> Store<D> {
         Refusal::DeviceFailed
     }
 
-    // Moves the records of a batch that is on the disk onto the table, and takes over its number.
+    // Moves the records of a batch that is on the disk onto the table, and takes over the batch's
+    // number.
     pub(crate) fn take_over(&mut self, commit: Commit) -> Durable
         requires fit { FitAll (store_state D.state self.old).table commit.batch }
         ensures store { store_state D.state self.new ≡ record (store_state D.state self.old) {

@@ -22,15 +22,15 @@ use store_layout::{LONGEST_ENTRY, laws, put_table};
 impl<D: Disk> Store<D> {
     ghost use Rattle.store.specs.State.{store_state, IsRoomy, IsSettled};
 
-    /// Begins a checkpoint of the durable table, on a store with nothing under way, where the
-    /// journal lacks room for the largest batch: no other store of a real disk begins one. The
-    /// other area then gets the table's records alone, and the batches so far no longer count; the
-    /// table and its number stay the same. It takes four calls of the disk, or six where
-    /// [`Store::must_retire`]. Refused with `Failed` exactly where an earlier call of the disk
-    /// failed, else with `Damaged` exactly where the live area has the last generation, and with
-    /// `OutOfMemory` for want of memory, before any call. All the memory that the checkpoint needs
-    /// is taken here, at most an area's length beside the table. The cost grows with the table's
-    /// records.
+    /// Begins a checkpoint of the durable table, on a store with nothing under way whose journal
+    /// doesn't have room for the largest batch. This is the only time when a store of a real disk
+    /// begins one. The other area then gets only the table's records, and the batches so far no
+    /// longer count. The table and its number stay the same. It takes four calls of the disk, or
+    /// six if [`Store::must_retire`]. Refused with `Failed` exactly if an earlier call of the disk
+    /// failed, else with `Damaged` exactly if the live area has the last generation, and with
+    /// `OutOfMemory` if memory runs out, before any call. All the memory that the checkpoint needs
+    /// is allocated here: at most an area's length besides the table. The cost grows with the
+    /// table's records.
     pub fn checkpoint(&self, alloc: Global) -> Result<Checkpoint, Refusal>
         requires full { ¬ (IsRoomy (store_state D.state self.now)) }
         ensures answer { IsCheckpointAnswer (store_state D.state self.now) result }
@@ -42,7 +42,7 @@ impl<D: Disk> Store<D> {
         self.begin_checkpoint(alloc)
     }
 
-    // The same where the journal may have room.
+    // The same when the journal may still have room.
     fn begin_checkpoint(&self, alloc: Global) -> Result<Checkpoint, Refusal>
         ensures answer { IsCheckpointAnswer (store_state D.state self.now) result }
         ensures fits { IfOk result (λ begun. FitsOther (store_state D.state self.now)
@@ -62,8 +62,8 @@ impl<D: Disk> Store<D> {
         Ok(Checkpoint { phase })
     }
 
-    /// Whether the other area's gate is open, so that a checkpoint has to close it before it is
-    /// written.
+    /// Whether the other area's gate is open. If so, a checkpoint has to close it before the
+    /// checkpoint is written.
     pub fn must_retire(&self) -> bool
         ensures { result ≡ (store_state D.state self.now).log.other_open }
     {
@@ -74,7 +74,7 @@ impl<D: Disk> Store<D> {
 impl<D: Sim> Store<D> {
     ghost use Rattle.store.specs.State.{store_state, IsSettled};
 
-    /// Begins a checkpoint as [`Store::checkpoint`] does, and also where the journal has room: on a
+    /// Begins a checkpoint as [`Store::checkpoint`] does, even if the journal has room. On a
     /// simulated disk a script says when.
     pub fn checkpoint_early(&self, alloc: Global) -> Result<Checkpoint, Refusal>
         ensures answer { IsCheckpointAnswer (store_state D.state self.now) result }
@@ -87,9 +87,9 @@ impl<D: Sim> Store<D> {
     }
 }
 
-/// The checkpoint of a table and the number of its last decision, behind an area of this
-/// generation. The other area has room for it, and for the largest batch. Refused with
-/// `OutOfMemory` alone; all the memory that its phases need is taken here.
+/// The checkpoint of a table and the number of its last decision, after an area of this generation.
+/// The other area has room for it and for the largest batch. Refused only with `OutOfMemory`. All
+/// the memory that its phases need is allocated here.
 pub(crate) fn checkpoint_of(
     alloc: Global,
     table: &Table,
@@ -109,7 +109,7 @@ pub(crate) fn checkpoint_of(
     Ok(checkpoint)
 }
 
-// The table's records, behind room for a header.
+// The table's records, after room for a header.
 fn records_of(alloc: Global, table: &Table) -> Result<Vec<u8>, Refusal>
     ensures { MatchResult result
         (λ bytes. (Header.LEN ≤ length bytes.items)

@@ -3,9 +3,9 @@ use crate::{Checkpoint, CheckpointOpened, CheckpointSynced, CheckpointWritten, R
 use disk::Disk;
 use lw_types::Refusal;
 
-/// A checkpoint under way, by what its next device call does.
+/// A checkpoint under way, according to what its next device call does.
 pub enum Publishing {
-    /// Closes the other area's gate where that is open, or writes the checkpoint.
+    /// Closes the other area's gate if that is open, or writes the checkpoint.
     Begun(Checkpoint),
     /// Syncs the closed gate.
     Retiring(Retiring),
@@ -23,8 +23,8 @@ impl Publishing {
     ghost use Rattle.store.specs.Publishing.{IsPublishingCall, calls_left, publishing_size};
     ghost use Rattle.store.specs.State.{store_state, IsOneCall};
 
-    /// Makes the device call that is next, the last one with `None`. Refused with `DeviceFailed`
-    /// exactly where the device failed; then the store has failed.
+    /// Makes the next device call. The last one returns `None`. Refused with `DeviceFailed` exactly
+    /// if the device failed. Then the store has failed.
     pub fn call<D: Disk>(self, store: &mut Store<D>) -> Result<Option<Self>, Refusal>
         requires { FitsOther (store_state D.state store.old) (publishing_size self) }
         ensures next { IsPublishingCall D.Disk store.old self result store.new }
@@ -45,7 +45,7 @@ impl Publishing {
         }
     }
 
-    /// How many device calls are left.
+    /// The number of device calls that are left.
     pub fn calls_left<D: Disk>(&self, store: &Store<D>) -> u64
         ensures { result ≡ calls_left (store_state D.state store.now) self.now }
     {
@@ -59,7 +59,7 @@ impl Publishing {
         }
     }
 
-    /// Lets the checkpoint go, at a crash.
+    /// Drops the checkpoint at a crash.
     pub fn lose(self) {
         match self {
             Publishing::Begun(phase) => phase.lose(),

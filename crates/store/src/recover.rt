@@ -26,8 +26,8 @@ use lw_types::Refusal;
 use std::alloc::Global;
 use store_layout::{RecordVersion, Superblock, laws};
 
-/// What stands in front of a store's disk: its superblock, the live area, and the version of the
-/// records there.
+/// What stands at the beginning of a store's disk: its superblock, the live area, and the version
+/// of the records there.
 #[derive(Clone, Copy)]
 struct StoreFront {
     superblock: Superblock,
@@ -66,7 +66,7 @@ pub(crate) fn read_store<D: Disk>(alloc: Global, opening: &mut Opening<D>) -> Re
     })
 }
 
-// The superblock, and the area that counts. Takes no memory.
+// The superblock, and the live area. Takes no memory.
 fn read_store_front<D: Disk>(opening: &mut Opening<D>) -> Result<StoreFront, Refusal>
     ensures store { D.honest → IfOk result
         (λ f. IsStoreOf (D.state (disk_in_opening opening.old)).content f.superblock.net_id
@@ -145,7 +145,7 @@ fn superblock_bytes<D: Disk>(opening: &mut Opening<D>) -> Result<[u8; 32], Refus
     }
 }
 
-// The live area, where its header is of use, and the version of its records.
+// The live area, if its header is usable, and the version of its records.
 fn read_live<D: Disk>(
     opening: &mut Opening<D>,
     superblock: &Superblock,
@@ -175,7 +175,7 @@ fn read_live<D: Disk>(
     }
 }
 
-// The version of the records behind a header, where that is of use.
+// The version of the records after a header, if the header is usable.
 fn usable_version(header: Header, area: Area) -> Result<RecordVersion, Refusal>
     requires { area.start + EMPTY_AREA_LEN ≤ area.end }
     ensures { MatchResult result

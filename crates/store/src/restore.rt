@@ -1,4 +1,4 @@
-// The table that a checkpoint and the batches behind it lead to.
+// The table that a checkpoint and the batches after it lead to.
 ghost use Rattle.std.specs.Prelude.{◌≡◌, ◌≢◌, ◌↔◌, ℕ, List, IfErr, MatchResult};
 ghost use Rattle.lw_types.specs.declared.refusal.Refusal.TheVariants.{Damaged, OutOfMemory};
 ghost use Rattle.sessions.specs.Table.{TableState, empty_table};
@@ -12,8 +12,8 @@ use sessions::Table;
 use std::alloc::Global;
 use store_layout::{RecordVersion, Superblock, laws, replay};
 
-/// The table and the number that an area leads to. Refused with `Damaged` exactly where it leads to
-/// none, and with `OutOfMemory` for want of memory.
+/// The table and the number to which an area leads. Refused with `Damaged` only if it leads to
+/// none, and with `OutOfMemory` if memory runs out.
 pub(crate) fn restore(
     alloc: Global,
     superblock: &Superblock,
@@ -50,7 +50,7 @@ pub(crate) fn restore(
 }
 
 // The table of a checkpoint's records, which are put on an empty one. Refused with `OutOfMemory`
-// for a record alone that is in order.
+// only at a record that is in order.
 fn checkpoint(
     alloc: Global,
     superblock: &Superblock,
@@ -78,8 +78,8 @@ fn checkpoint(
     Ok(table)
 }
 
-// Puts the entries of batches on a table, and gives the number of the last decision. Refused with
-// `OutOfMemory` for an entry alone that is in order, of a batch that is.
+// Puts the entries of batches on a table, and returns the number of the last decision. Refused with
+// `OutOfMemory` only at an entry that is in order, in a batch that is in order.
 fn replay_batches(
     alloc: Global,
     version: RecordVersion,
@@ -103,8 +103,8 @@ fn replay_batches(
     Ok(last)
 }
 
-// Puts the entries of one batch on a table. Refused with `OutOfMemory` for an entry alone that is
-// in order, where the number and the count of the batch are.
+// Puts the entries of one batch on a table. Refused with `OutOfMemory` only at an entry that is in
+// order, if the number and the count of the batch are in order.
 fn replay_batch(
     alloc: Global,
     version: RecordVersion,

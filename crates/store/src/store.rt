@@ -1,4 +1,4 @@
-// The store, and what it tells of itself.
+// The store and what it says of itself.
 ghost use Rattle.std.specs.Prelude.{◌≡◌, ◌<◌, ◌+◌, ◌-◌, ◌^◌, ◌↔◌, IsTrue, false};
 ghost use Rattle.disk.specs.Outlook.Outlook.{FailsAfter};
 ghost use Rattle.gate_log.specs.Log.{log_state, log_disk as disk_of_log};
@@ -10,13 +10,13 @@ use lw_types::Refusal;
 use sessions::Table;
 use store_layout::RESERVED_ENTRY;
 
-/// The bytes of the journal that the largest batch takes: its gate and head, 64 entries of the
-/// bytes that are reserved for each, and the next gate.
+/// The number of bytes of the journal that the largest batch takes: its gate and head, 64 entries
+/// of the bytes that are reserved for each, and the next gate.
 pub const LARGEST_BATCH: u64 = ENTRIES_AT + 64 * RESERVED_ENTRY + 1;
 
 /// A durable table with its journal on a disk, in records of the newest version. After a call of
-/// the disk has failed, it answers no `begin` but with [`Refusal::Failed`]: it is closed, and its
-/// disk opened again.
+/// the disk has failed, each `begin` returns [`Refusal::Failed`]: close the store, and open its
+/// disk again.
 #[derive(Drop)]
 pub struct Store<D: Disk> {
     pub(crate) log: Log<D>,
@@ -70,7 +70,7 @@ impl<D: Disk> Store<D> {
         self.log.room() >= LARGEST_BATCH
     }
 
-    /// Gives the disk back.
+    /// Returns the disk.
     pub fn close(self) -> D
         ensures { result ≡ disk_of self }
     {

@@ -26,10 +26,10 @@ use std::alloc::Global;
 use store_layout::laws;
 
 impl Found {
-    /// The store of what was found in records of an older version: its table is published in the
-    /// other area, in the newest version, by four calls of the disk, or six where that area's gate
-    /// is open. No byte of the live area is written, so whatever a crash leaves at any moment holds
-    /// the same table and number. Want of memory is refused before the first call.
+    /// The store of what was found in records of an older version. Its table is published in the
+    /// other area, in the newest version, by four calls of the disk, or six if that area's gate is
+    /// open. No byte of the live area is written, so a crash at any moment leaves the same table
+    /// and number. If memory runs out, that is refused before the first call.
     pub(crate) fn take_over<D: Disk>(
         self,
         alloc: Global,

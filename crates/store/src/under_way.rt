@@ -4,9 +4,9 @@ use crate::{Begun, BodySynced, Durable, GateWritten, Paired, Store, Written};
 use disk::Disk;
 use lw_types::Refusal;
 
-/// What is under way on a store, by what its next device call does: the commit of a batch, or of
-/// two that share a sync, or a checkpoint. What goes along with a batch until it is durable, as the
-/// room for its effects, is a `T`.
+/// What is under way on a store, according to what its next device call does: the commit of a
+/// batch, or of two that share a sync, or a checkpoint. `T` is what accompanies a batch until it is
+/// durable, for example the room for its effects.
 pub enum UnderWay<T> {
     /// Writes the batch's body.
     Begun(Begun, T),
@@ -16,7 +16,7 @@ pub enum UnderWay<T> {
     BodySynced(BodySynced, T),
     /// Syncs the gate.
     GateWritten(GateWritten, T),
-    /// Writes the following batch's body, behind the gate of the one that it follows.
+    /// Writes the following batch's body, after the batch whose gate is written.
     Following {
         opened: GateWritten,
         along: T,
@@ -29,13 +29,13 @@ pub enum UnderWay<T> {
     Checkpoint(Publishing),
 }
 
-/// What one device call of it led to.
+/// What one device call led to.
 pub enum Called<T> {
-    /// More calls are to be made.
+    /// More calls have to be made.
     UnderWay(UnderWay<T>),
-    /// A batch is durable. What is under way behind it goes on.
+    /// A batch is durable. What is under way after it goes on.
     Durable(Durable, T, Option<UnderWay<T>>),
-    /// The checkpoint is the store's, which has room for the largest batch.
+    /// The store has taken the checkpoint over, and has room for the largest batch.
     Published,
 }
 
@@ -43,9 +43,9 @@ impl<T: Drop> UnderWay<T> {
     ghost use Rattle.store.specs.State.{store_state, IsOneCall};
     ghost use Rattle.store.specs.UnderWay.{IsNextCall, IsOnItsWay};
 
-    /// Makes the device call that is next. Refused with `DeviceFailed` exactly where the device
-    /// failed; then the store has failed, what was under way is lost, and whether a batch whose
-    /// gate was written is on the disk is found out by opening the store again.
+    /// Makes the next device call. Refused with `DeviceFailed` exactly if the device failed. Then
+    /// the store has failed, what was under way is lost, and only opening the store again shows
+    /// whether a batch whose gate was written is on the disk.
     pub fn call<D: Disk>(self, store: &mut Store<D>) -> Result<Called<T>, Refusal>
         requires { IsOnItsWay (store_state D.state store.old) self }
         ensures next { IsNextCall D.Disk store.old self result store.new }
@@ -85,7 +85,7 @@ impl<T: Drop> UnderWay<T> {
         }
     }
 
-    /// Lets what is under way go, at a crash.
+    /// Drops what is under way at a crash.
     pub fn lose(self) {
         match self {
             UnderWay::Begun(phase, _) => phase.lose(),

@@ -1,4 +1,4 @@
--- What is printed of a store that was restored.
+-- What is printed about a restored store.
 use Rattle.std.specs.Prelude.{◌≡◌, ℕ, ◌-◌, ◌^◌, min, List, [], ◌∷◌, ◌++◌, length, codes}
 use Rattle.std.specs.Prelude.{None, unwrap_or}
 use Rattle.std.specs.Fmt.{decimal}
@@ -9,17 +9,17 @@ use Rattle.lw_types.specs.Words.{line_of}
 use Rattle.sessions.specs.Restored.{raised_by_all, restored_table, spent_device}
 use Rattle.sessions.specs.Table.{TableState}
 
--- how many joins may still be granted: the JoinNonces above the last one (TS001-1.0.4 §6.2.6: 24
+-- how many joins can still be granted: the JoinNonces above the last one (TS001-1.0.4 §6.2.6: 24
 -- bits)
 abbrev pub grants_left : Device → ℕ
 grants_left d = 2 ^ 24 - 1 - unwrap_or d.activation.granted 0
 
--- the fewest that a device has left, and a new device's where there is none
+-- the fewest that a device has left, and a new device's number if there is none
 abbrev pub fewest_left : List Device → ℕ
 fewest_left [] = 2 ^ 24 - 1
 fewest_left (d ∷ devices) = min (grants_left d) (fewest_left devices)
 
--- the device's JoinNonces go on above this one, and its count of uplinks from this one
+-- the device's JoinNonces continue above this one, and its count of uplinks from this one
 abbrev pub above_line : Device → List ℕ
 above_line d = line_of (codes "above" ∷ eui_text d.dev_eui
     ∷ decimal (unwrap_or d.activation.granted 0) ∷ decimal d.heard ∷ []) ++ 10 ∷ []
@@ -36,12 +36,12 @@ head_text recorded devices =
     ∷ (codes "recorded " ++ (decimal recorded ++ 10
     ∷ (codes "grants_left " ++ (decimal (fewest_left devices) ++ 10 ∷ [])))))
 
--- the same, and from where each device goes on
+-- the same, and from where each device continues
 abbrev pub restored_text : ℕ → List Device → List ℕ
 restored_text recorded devices = head_text recorded devices ++ above_lines devices
 
 -- A store has the table of a copy, in which the sessions on record count as granted, and then N
--- more of each device; and this is printed of it.
+-- more for each device; and this is printed about it.
 abbrev pub IsRestoredAs : ℕ → TableState → List ℕ → Type 0
 IsRestoredAs since t text =
     (copy : TableState) × (sessions : List SessionName) × (recorded : ℕ)

@@ -4,7 +4,7 @@ use lw_types::{Eui, Refusal};
 /// Why a store's file can't be made or restored.
 #[derive(Drop)]
 pub enum FileFault {
-    /// There is such a file already.
+    /// The file exists already.
     Exists,
     /// A file can't be made or opened, or another process has it.
     File,
@@ -14,7 +14,7 @@ pub enum FileFault {
     Line(String, u64),
     /// This device of the copy has too few JoinNonces left.
     Spent(Eui),
-    /// The store refused, its disk failed, or there was no memory.
+    /// The store refused, its disk failed, or memory ran out.
     Refused(Refusal),
 }
 

@@ -10,8 +10,8 @@ use std::io::ErrorKind;
 use std::rt::Files;
 use store::disk_len;
 
-/// A file that wasn't there before. Only [`create`] makes one, and [`remove_new`] takes it: so a
-/// store that was there is never removed.
+/// A file that didn't exist before. Only [`create`] makes one, and [`remove_new`] takes it, so a
+/// store that existed is never removed.
 #[derive(Drop)]
 pub struct NewFile<'a> {
     path: &'a str,
@@ -42,7 +42,7 @@ pub fn remove_new<R: Files<File = File>>(
 ) -> FileFault
     ensures { result ≡ fault }
 {
-    // removed before its lock is released, so that nobody opens it in between
+    // removed before its lock is released, so that no other process opens it in between
     let _ = fs::remove_file(rt, made.path);
     drop(disk);
     fault

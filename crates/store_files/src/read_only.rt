@@ -1,8 +1,8 @@
-// A disk that is read and never written.
+// A disk that is only read.
 use disk::{DeviceFailed, Disk};
 
-/// Reads another disk, and lets go what is written. So the store of a copy can be opened, even one
-/// of an older version, which an opening takes over by writing; and the copy stays as it is.
+/// Reads another disk, and drops what is written. So the store of a copy can be opened, even one of
+/// an older version, which an opening takes over by writing, and the copy doesn't change.
 #[derive(Drop)]
 pub(crate) struct ReadOnly<D> {
     disk: D,
@@ -23,7 +23,7 @@ impl<D: Disk> Disk for ReadOnly<D> {
 
     ghost outlook = { λ _. Unknown };
 
-    // What is read isn't what was written.
+    // A read doesn't return what was written.
     ghost honest = { ⊥ };
 
     fn len(&self) -> u64 {

@@ -1,5 +1,5 @@
-// The record of restores: from which JoinNonces the devices of a network went on.
-ghost use Rattle.std.specs.Prelude.{◌≡◌, IfSome};
+// The record of restores: from which JoinNonces the devices of a network continued.
+ghost use Rattle.std.specs.Prelude.{◌≡◌, ◌<◌, ◌^◌, ◌×◌, IfSome, Some};
 ghost use Rattle.store_files.specs.Record.{session_text};
 
 use crate::FileFault;
@@ -16,13 +16,13 @@ use std::rt::Files;
 /// The name of a record in the folder of a store or of a copy.
 pub const RECORD_NAME: &str = "lnsd-restored.csv";
 
-// The name under which a record is written, before it replaces the last one.
+// The name of a record that is being written, before it replaces the last one.
 const UNFINISHED_NAME: &str = "lnsd-restored.csv.new";
 
-// The first line of a record, which may stand in front of any other line, too.
+// The first line of a record. It may also come before any other line.
 const HEADER: &str = "DevEUI,JoinNonce";
 
-// The longest record, in bytes: one of some 500 restores of 4,096 devices.
+// The longest record, in bytes: some 500 restores of 4,096 devices.
 const LONGEST: u64 = 64 << 20;
 
 /// The text of a file of JoinNonces, and its path.
@@ -32,16 +32,15 @@ pub(crate) struct NonceFile {
     text: String,
 }
 
-/// The record of restores in a folder, which is locked, so that of two restores at once the second
-/// one is refused.
+/// The record of restores in a folder. The folder is locked, so that the second of two restores at
+/// the same time is refused.
 #[derive(Drop)]
 pub(crate) struct Record {
     file: NonceFile,
     folder: File,
 }
 
-/// Whether a file has a name that records have. A store or a copy of such a name would be replaced
-/// by a record.
+/// Whether a file has a name of records. A record would replace a store or a copy of this name.
 pub(crate) fn is_record_name(file: &str) -> bool {
     matches!(
         Path::new(file).file_name(),
@@ -50,7 +49,7 @@ pub(crate) fn is_record_name(file: &str) -> bool {
 }
 
 impl Record {
-    /// The record in the folder of a file. One that isn't there is empty.
+    /// The record in the folder of a file. A missing one is empty.
     pub(crate) fn in_folder_of<R: Files<File = File>>(
         rt: &R,
         alloc: Global,
@@ -76,9 +75,9 @@ impl Record {
         self.file.read_into(alloc, sessions)
     }
 
-    /// Writes the record anew, with a line more for each device: the last JoinNonce that counts as
+    /// Writes the record again, with a line more for each device: the last JoinNonce that counts as
     /// granted to it. The file is replaced as a whole, and is durable when this succeeds. A crash
-    /// leaves the one record or the other.
+    /// leaves the old record or the new one.
     pub(crate) fn add<R: Files<File = File>>(
         self,
         rt: &R,
@@ -98,7 +97,7 @@ impl Record {
 }
 
 impl NonceFile {
-    /// This file, which has to be there.
+    /// This file, which must exist.
     pub(crate) fn open<R: Files<File = File>>(
         rt: &R,
         alloc: Global,
@@ -145,7 +144,7 @@ impl NonceFile {
     }
 }
 
-/// Whether the files are in one folder, under whatever names.
+/// Whether both files are in the same folder, by any names of it.
 pub(crate) fn are_beside<R: Files<File = File>>(rt: &R, file: &str, other: &str) -> bool {
     match (folder_number(rt, file), folder_number(rt, other)) {
         (Ok(number), Ok(other)) => number == other,
@@ -160,9 +159,13 @@ fn folder_number<R: Files<File = File>>(rt: &R, file: &str) -> io::Result<(u64, 
 }
 
 /// The session that a line of a record names: a DevEUI of 16 upper-case hexadecimal digits, a
-/// comma, and a JoinNonce from 1 to 16,777,215 in decimal. `None` for any other line.
+/// comma, and a JoinNonce from 1 to 16,777,215 in decimal. `None` for any other line, and only
+/// then.
 pub fn session_in_line(line: &str) -> Option<SessionName>
     ensures found { IfSome result (λ s. line.now ≡ session_text s) }
+    ensures only { (s : SessionName) → s.dev_eui.0 < 2 ^ 64
+        → (0 < s.join_nonce) × (s.join_nonce < 2 ^ 24)
+        → line.now ≡ session_text s → result ≡ Some s }
 {
     let (dev_eui, join_nonce) = line.split_once(',')?;
     let dev_eui = Eui::from_text(dev_eui)?;
@@ -187,7 +190,7 @@ fn with_devices(alloc: Global, before: String, devices: &[Device]) -> Result<Str
     Ok(text)
 }
 
-// The line of a device; none of one that was granted nothing.
+// The line of a device; empty for one that was granted nothing.
 fn record_line(alloc: Global, device: &Device) -> Result<String, AllocError> {
     let dev_eui = device.dev_eui;
     match device.activation.granted() {
@@ -199,7 +202,7 @@ fn record_line(alloc: Global, device: &Device) -> Result<String, AllocError> {
     }
 }
 
-// The text of a file that isn't longer than a record may be.
+// The text of a file, if it isn't too long for a record.
 fn text_of<R: Files<File = File>>(rt: &R, alloc: Global, path: &str) -> io::Result<String> {
     let mut file = File::open(rt, path)?;
     if file.metadata()?.len() > LONGEST {
@@ -210,7 +213,7 @@ fn text_of<R: Files<File = File>>(rt: &R, alloc: Global, path: &str) -> io::Resu
     Ok(text)
 }
 
-// Locks a folder, and reads the record of this path in it, which is empty if it isn't there.
+// Locks a folder, and reads the record of this path in it. A missing one is empty.
 fn locked_text<R: Files<File = File>>(
     rt: &R,
     alloc: Global,
@@ -226,7 +229,7 @@ fn locked_text<R: Files<File = File>>(
     }
 }
 
-// Replaces a record by one with this text, which its owner alone may read.
+// Replaces a record by one with this text, which only its owner may read.
 fn replace<R: Files<File = File>>(
     rt: &R,
     alloc: Global,

@@ -1,4 +1,4 @@
-// What is printed of a store that was restored.
+// What is printed about a restored store.
 ghost use Rattle.std.specs.Prelude.{◌≡◌, IfOk, string_bytes, unwrap_or};
 ghost use Rattle.store_files.specs.Report.{above_line, fewest_left, grants_left, head_text};
 ghost use Rattle.store_files.specs.Report.{restored_text};
@@ -10,9 +10,9 @@ use std::alloc::{AllocError, Global};
 // The last JoinNonce (TS001-1.0.4 §6.2.6).
 const LAST_NONCE: u32 = 0xFF_FFFF;
 
-/// How many devices there are, how many of them the records name, how many joins are left to the
+/// The number of devices, how many of them were raised by a record, how many joins are left to the
 /// device that has the fewest, and from where the JoinNonces and the count of uplinks of each
-/// device go on.
+/// device continue.
 pub(crate) fn report_of(
     alloc: Global,
     recorded: usize,
@@ -48,7 +48,7 @@ fn above_line(alloc: Global, device: &Device) -> Result<String, AllocError>
     Ok(text)
 }
 
-// The last JoinNonce granted, 0 if there is none.
+// The last granted JoinNonce, 0 if there is none.
 fn granted_number(device: &Device) -> u32
     ensures { result ≡ unwrap_or device.now.activation.granted 0 }
 {
@@ -66,7 +66,7 @@ fn fewest_left(devices: &[Device]) -> u32
     fewest
 }
 
-// How many joins may still be granted to a device.
+// How many joins can still be granted to a device.
 fn grants_left(device: &Device) -> u32
     ensures { result ≡ grants_left device.now }
 {

@@ -1,4 +1,4 @@
-// An older copy of a lost store is restored.
+// Restoring an older copy of a lost store.
 ghost use Rattle.std.specs.Prelude.{◌≡◌, ◌⊎◌, ℕ, IfOk, List, MatchResult, None, Some, option_map};
 ghost use Rattle.std.specs.Prelude.{string_bytes};
 ghost use Rattle.devices.specs.declared.mark.SessionName.{SessionName};
@@ -25,7 +25,7 @@ use store::{Store, establish_back, open};
 pub struct RestoreRequest<'a> {
     /// The file of the copy.
     pub old: &'a str,
-    /// The file of the new store, which isn't there yet.
+    /// The file of the new store, which must not exist yet.
     pub new: &'a str,
     /// How far the JoinNonces are raised above those of the copy and of the records.
     pub since: GrantsSince,
@@ -33,19 +33,19 @@ pub struct RestoreRequest<'a> {
     pub above: Option<&'a str>,
 }
 
-/// The store that was restored, and what is printed of it.
+/// The restored store, and what is printed about it.
 #[derive(Drop)]
 pub struct RestoredStore {
     pub store: Store<FileDisk>,
     pub text: String,
 }
 
-/// Restores an older copy of a lost store in a new file. The JoinNonces of each device go on
+/// Restores an older copy of a lost store to a new file. The JoinNonces of each device continue
 /// `since` above the highest of these: the copy's last one, those of the records of earlier
 /// restores in the folders of both files, and those of the file `above`. No device has a session.
-/// Before the new store is there, both records say from where the devices go on, durably. The copy
-/// stays as it is. If it fails, the new file isn't there, and the records are as they were or say
-/// so already, which raises the next restore and no more.
+/// Before the new store exists, both records durably say from where the devices continue. The copy
+/// doesn't change. If this fails, the new file doesn't exist, and the records are unchanged or have
+/// these lines already, which only raises the JoinNonces of the next restore.
 pub fn restore<R: Files<File = File>>(
     rt: &R,
     alloc: Global,
@@ -85,13 +85,13 @@ fn record_fault(alloc: Global, file: &str) -> FileFault {
 #[derive(Drop)]
 struct Records {
     of_old: Record,
-    // none if both files are in one folder
+    // `None` if both files are in one folder
     of_new: Option<Record>,
     sessions: Vec<SessionName>,
 }
 
 impl Records {
-    // Adds to the records from where the devices go on.
+    // Adds to the records from where the devices continue.
     fn add<R: Files<File = File>>(
         self,
         rt: &R,
@@ -137,7 +137,7 @@ fn read_records<R: Files<File = File>>(
     })
 }
 
-// The table of a copy as it is restored, and what is printed of it.
+// The table of a copy as it is restored, and what is printed about it.
 fn table_since(
     alloc: Global,
     copy: &Table,
@@ -159,7 +159,7 @@ fn table_since(
     }
 }
 
-// How many devices have another last granted JoinNonce than in the copy.
+// How many devices have a different last granted JoinNonce than in the copy.
 fn changed(copy: &[Device], raised: &[Device]) -> usize {
     copy.iter()
         .zip(raised)
@@ -181,8 +181,8 @@ fn restored(raised: Table, since: GrantsSince) -> Result<Table, FileFault>
     }
 }
 
-// The store of a copy. What an opening reads is read of its file, and nothing is written there. So
-// the superblock and the length are looked at first, and memory holds the table alone.
+// The store of a copy. An opening reads from the copy's file and writes nothing there. So the
+// superblock and the length are checked first, and memory holds only the table.
 fn open_copy<R: Files<File = File>>(
     rt: &R,
     alloc: Global,

@@ -1,4 +1,4 @@
--- Entries one behind another: where one ends the next begins.
+-- Entries one after another: the next begins at the end of the one before.
 use Rattle.std.proofs.Common.{◌*◌, ◌/◌, ◌%◌, ◌-◌, get_or, ◌≡◌, ◌<◌, ◌≤◌, ◌+◌, ◌^◌, ◌∙◌, ℕ, List, [], ◌∷◌, ◌++◌, length, take, drop, suc, sym, ap, subst, refl, arith}
 use Rattle.std.specs.Int.{to_be_bytes, from_be_bytes, w16}
 use Rattle.std.proofs.lemmas.List.{append_assoc, append-nil, length_push, length-append, take_rest, take_at}
@@ -29,7 +29,7 @@ parts (a ∷ as') (b ∷ bs) x y long e =
 number_same : (m n : ℕ) → m < 2 ^ 16 → n < 2 ^ 16 → to_be_bytes w16 m ≡ to_be_bytes w16 n → m ≡ n
 number_same m n hm hn e = sym (from_be_bytes-to_be_bytes_2 m hm) ∙ (ap (from_be_bytes w16) e ∙ from_be_bytes-to_be_bytes_2 n hn)
 
--- the laws of records and changes that this file stands on
+-- the laws of records and changes that this file uses
 pub record RecordLaws (v : RecordVersion) : Type 0 where
   pub one : (a b : Device) → IsDevice v a → IsDevice v b → spelling v a ≡ spelling v b → a ≡ b
   pub short : (a : Device) → IsDevice v a → length (spelling v a) ≤ 4300
@@ -54,7 +54,7 @@ ChangeLaw = (version : RecordVersion) (before a b : Device) (bytes : List ℕ) �
 pub record_laws : RecordLaw → LengthLaw → ChangeLaw → (v : RecordVersion) → RecordLaws v
 record_laws one short change v = record { one = one v; short = short_in short v; one_change = change v }
 
--- the body of an entry is no longer either
+-- the body of an entry isn't longer either
 pub short_body : (v : RecordVersion) → ((a : Device) → IsDevice v a → length (spelling v a) ≤ 4300) → (e : EntryValue) → IsEntry v e → length (body_in v e) ≤ 4300
 short_body v short (Whole slot device) is = short device is.1
 short_body v short (Changed slot change) is = is.1
@@ -105,7 +105,7 @@ framed (a ∷ b ∷ c ∷ d ∷ e ∷ rest) body behind slot len long small slot
     let len_low : e ≡ length body % 256 = omega arith in
     λ i. a ∷ slot_high i ∷ slot_low i ∷ len_high i ∷ len_low i ∷ rest_is i
 
--- what the length at the front of an entry cuts off is its body
+-- the length at the front of an entry gives its body
 pub body_cut : (v : RecordVersion) (bytes rest : List ℕ) (e : EntryValue) (cut : List ℕ) (len : ℕ) → length (body_in v e) ≤ 4300
     → bytes ≡ entry v e ++ rest
     → cut ≡ take len (take (length bytes - 5) (drop 5 bytes)) → len ≡ get_or bytes 3 0 * 256 + get_or bytes 4 0 → cut ≡ body_in v e
@@ -115,7 +115,7 @@ body_cut v bytes rest e cut len short is cut_is len_is =
     let long : length (body_in v e) ≡ len = omega arith in
     cut_is ∙ (ap (take len) (take_rest bytes 5 ∙ ap (drop 5) is) ∙ take_at (body_in v e) rest len long)
 
--- no entry stands in front of bytes whose length cuts off no body of their kind
+-- no entry stands at the front of bytes whose length gives no body of their kind
 pub no_body : (v : RecordVersion) (bytes cut : List ℕ) (len : ℕ) → ((a : Device) → IsDevice v a → length (spelling v a) ≤ 4300)
     → ((e : EntryValue) → IsEntry v e → get_or bytes 0 0 ≡ kind_of e → cut ≡ body_in v e → ⊥)
     → cut ≡ take len (take (length bytes - 5) (drop 5 bytes)) → len ≡ get_or bytes 3 0 * 256 + get_or bytes 4 0 → NoEntry v bytes
@@ -124,7 +124,7 @@ no_body v bytes cut len short none cut_is len_is e rest is_entry is =
 
 -- ---- entries on a table
 
--- an entry leaves one record, and leads from a table to one other
+-- an entry leaves one record, and leads from a table to one other table
 one_left : {v : RecordVersion} → RecordLaws v → (t : TableState) (e : EntryValue) (a b : Device) → LeavesRecord v t e a → LeavesRecord v t e b → a ≡ b
 one_left laws t (Whole slot device) a b p q = p ∙ sym q
 one_left {v} laws t (Changed slot change) a b p q =
@@ -154,12 +154,12 @@ one_lead laws t [] u w p q = p ∙ sym q
 one_lead {v} laws t (e ∷ es) u w p q =
     one_lead laws q.0 es u w (subst (λ (x : TableState). EntriesLead v x es u) (one_put laws t e p.0 q.0 p.1 q.1) p.2) q.2
 
--- one entry more
+-- one more entry
 leads_push : (v : RecordVersion) (t : TableState) (es : List EntryValue) (x : TableState) (e : EntryValue) (u : TableState) → EntriesLead v t es x → Puts v x e u → EntriesLead v t (es ++ e ∷ []) u
 leads_push v t [] x e u lead put = (u, subst (λ (y : TableState). Puts v y e u) lead put, refl)
 leads_push v t (f ∷ es) x e u lead put = (lead.0, lead.1, leads_push v lead.0 es x e u lead.2 put)
 
--- what entries in front lead to, and the others from there
+-- what the first entries lead to, and the others from there
 leads_apart : (v : RecordVersion) (t : TableState) (front es : List EntryValue) (u : TableState) → EntriesLead v t (front ++ es) u → (x : TableState) × EntriesLead v t front x × EntriesLead v x es u
 leads_apart v t [] es u lead = (t, refl, lead)
 leads_apart v t (f ∷ front) es u lead =
@@ -211,7 +211,7 @@ read_more v t bytes n now_table rest e behind next_table so is is_entry put =
       leads = leads_push v t so.front now_table e next_table so.leads put;
     }
 
--- one more that leaves a record stands behind them
+-- one more that leaves a record stands after them
 pub goes_on_at : (v : RecordVersion) (t : TableState) (bytes : List ℕ) (n count : ℕ) (here : TableState) (rest : List ℕ) (e : EntryValue) (behind : List ℕ)
     → ReadSo v t bytes n here rest → n < count → rest ≡ entry v e ++ behind → IsEntry v e → (after : Device) → LeavesRecord v here e after
     → ReplayGoesOn v t bytes count
@@ -229,7 +229,7 @@ goes_on_at v t bytes n count here rest e behind so less is is_entry after leaves
   leaves = leaves;
 }
 
--- what spells the bytes goes on behind what was read
+-- what spells the bytes goes on after what was read
 goes_on : {v : RecordVersion} → RecordLaws v → (front es : List EntryValue) (rest : List ℕ) → AreEntries v front → AreEntries v es → length front ≤ length es
     → entries v front ++ rest ≡ entries v es → (more : List EntryValue) × (es ≡ front ++ more) × (rest ≡ entries v more)
 goes_on laws [] es rest hf he long is = (es, refl, is)
@@ -245,7 +245,7 @@ longer front more n sum less none =
     let s : length (front ++ []) ≡ n = ap (λ m. length (front ++ m)) (sym none) ∙ sum in
     omega arith
 
--- the next entry, where there is to be one
+-- the next entry, if there is to be one
 next_entry : {v : RecordVersion} → RecordLaws v → (t : TableState) (bytes : List ℕ) (n count : ℕ) (now_table : TableState) (rest : List ℕ) (es : List EntryValue) (u : TableState)
     → ReadSo v t bytes n now_table rest → n < count → Replay v t bytes count es u
     → (e : EntryValue) × (behind : List ℕ) × IsEntry v e × (rest ≡ entry v e ++ behind) × (w : TableState) × Puts v now_table e w
@@ -264,7 +264,7 @@ next_entry {v} laws t bytes n count now_table rest es u so less r =
         entry_at [] e more each = each.0
         entry_at (f ∷ front) e more each = entry_at front e more each.1
 
--- where no entry stands, or the one that stands there may not be put, nothing replays
+-- if no entry stands there, or that entry may not be put, nothing replays
 pub no_entry : {v : RecordVersion} → RecordLaws v → (t : TableState) (bytes : List ℕ) (n count : ℕ) (now_table : TableState) (rest : List ℕ)
     → ReadSo v t bytes n now_table rest → n < count → NoEntry v rest → (es : List EntryValue) (u : TableState) → Replay v t bytes count es u → ⊥
 no_entry laws t bytes n count now_table rest so less lacks es u r =
@@ -279,7 +279,7 @@ no_place {v} laws t bytes n count now_table rest e behind so less is is_entry ca
     let same = (entry-one laws x.0 e x.1 behind x.2 is_entry (sym x.3 ∙ is)).0 in
     cannot x.4 (subst (λ (f : EntryValue). Puts v now_table f x.4) same x.5)
 
--- bytes behind the last entry are too many
+-- bytes after the last entry are too many
 pub no_rest : {v : RecordVersion} → RecordLaws v → (t : TableState) (bytes : List ℕ) (n count : ℕ) (now_table : TableState) (rest : List ℕ)
     → ReadSo v t bytes n now_table rest → n ≡ count → (rest ≡ [] → ⊥) → (es : List EntryValue) (u : TableState) → Replay v t bytes count es u → ⊥
 no_rest {v} laws t bytes n count now_table rest so done some es u r =

@@ -1,4 +1,4 @@
--- Entries that replay: those of decisions, and that there is one list of them at most.
+-- Entries that replay: those of decisions. At most one list of them does.
 use Rattle.std.proofs.Common.{◌≡◌, ◌≤◌, ◌+◌, ◌*◌, ◌∙◌, ℕ, List, [], ◌∷◌, ◌++◌, length, suc, Option, Some, None, sym, ap, subst, refl, arith}
 use Rattle.std.proofs.lemmas.List.{length-append}
 use Rattle.std.specs.Option.{MatchOption}
@@ -13,7 +13,7 @@ use Rattle.store_layout.specs.Entries.{EntryValue, body_in, entry, entries, AreE
 use Rattle.store_layout.specs.Entries.EntryValue.{Changed, Whole}
 use Rattle.store_layout.proofs.EntryLaws.{RecordLaws, entry-one, one_lead, short_body}
 
--- the entry of a decision leads where the decision does
+-- the entry of a decision leads to the table to which the decision leads
 puts_of : (v : RecordVersion) (t : TableState) (d : Decision) (e : EntryValue) → FitsTable t d → CanPut t d.slot d.after → IsEntryOf v d e → Puts v t e (with_decision t d)
 puts_of v t d e fits can is = at d.before refl is
   where
@@ -24,7 +24,7 @@ puts_of v t d e fits can is = at d.before refl is
     at (Some before) found (change, same, of) =
         subst (λ (x : EntryValue). Puts v t x (with_decision t d)) (sym same) (record { after = d.after; leaves = (before, sym fits.before ∙ found, of); can = can; is = refl })
 
--- and so do those of more of them
+-- and so do the entries of several decisions
 pub leads_of : ((t : TableState) (d : Decision) → FitsTable t d → CanPut t d.slot d.after)
     → (v : RecordVersion) (t : TableState) (ds : List Decision) (es : List EntryValue) → FitAll t ds → AreEntriesOf v ds es → EntriesLead v t es (with_decisions t ds)
 leads_of put v t [] [] fit are = refl
@@ -39,7 +39,7 @@ as_many v [] (e ∷ es) are = absurd are
 as_many v (d ∷ ds) [] are = absurd are
 as_many v (d ∷ ds) (e ∷ es) are = ap suc (as_many v ds es are.1)
 
--- as many entries with the same bytes are the same
+-- the same number of entries with the same bytes are the same
 same-entries : {v : RecordVersion} → RecordLaws v → (es fs : List EntryValue) → AreEntries v es → AreEntries v fs → length es ≡ length fs → entries v es ≡ entries v fs → es ≡ fs
 same-entries laws [] [] he hf long is = refl
 same-entries laws [] (f ∷ fs) he hf long is = absurd (omega arith)

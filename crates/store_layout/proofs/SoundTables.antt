@@ -21,14 +21,14 @@ name d = d.dev_eui.0
 
 -- ---- the slots
 
--- where nothing stands the list has ended
+-- if nothing stands there the list has ended
 ended : (xs : List Device) (n : ℕ) (x : Device) → slice_get xs n ≡ None → n ≤ length xs → n ≡ length xs
 ended xs n x none within =
     split (nat_lt n (length xs))
     (λ before. absurd (none-some (get_or xs n x) (sym none ∙ slice_get-get_or xs n x (ltb-true n (length xs) before))))
     (λ past. let beyond = ltb-false n (length xs) past in omega (arith, within, beyond))
 
--- each device is found at its own slot after an image put a record at one
+-- each device is found at its own slot after an entry put a record at one
 own-put : (t : TableState) (slot : ℕ) (x : Device) → CanPut t slot x → HaveOwnSlots t.devices → HaveOwnSlots (with_record t slot x).devices
 own-put t slot x can own = at (slot_of (name x) t.devices) refl can.2 (slice_get t.devices slot) refl
   where

@@ -29,7 +29,7 @@ get_at : (xs : List Device) (d : Device) (ys : List Device) → slice_get (xs ++
 get_at [] d ys = refl
 get_at (x ∷ xs) d ys = get_at xs d ys
 
--- the next device may be put behind those before it
+-- the next device may be put after those before it
 next_fits : (net_id slots : ℕ) (done rest : List Device) (d : Device) → HaveOwnSlots (done ++ d ∷ rest) → length done < slots → CanPut (record { net_id = net_id; slots = slots; devices = done }) (length done) d
 next_fits net_id slots done rest d own room = (omega arith, room, at (slot_of d.dev_eui.0 done) refl)
   where
@@ -64,7 +64,7 @@ table_replays version t own few are = record {
   leads = put_rest version t.net_id t.slots [] t.devices own few;
 }
 
--- one device's entry more was appended
+-- the entry of one more device was appended
 pub put_more : (version : RecordVersion) (slot i : ℕ) (before out more : List ℕ) (devices : List Device) (d : Device) → i < length devices → d ≡ get_or devices i d
     → out ++ entries version (entries_from slot (drop i devices)) ≡ before → more ≡ out ++ entry version (Whole slot d)
     → more ++ entries version (entries_from (suc slot) (drop (i + 1) devices)) ≡ before

@@ -1,4 +1,5 @@
--- Entries: what a store keeps of one device each, and what they make of a table one after another.
+-- Entries: each is what a store keeps of one device. And what they make of a table, one after
+-- another.
 use Rattle.std.specs.Prelude.{◌≡◌, ◌<◌, ◌≤◌, ◌^◌, ℕ, suc, List, [], ◌∷◌, ◌++◌, length, Some}
 use Rattle.std.specs.Prelude.{slice_get}
 use Rattle.std.specs.List.{flat_map, AllByRecursion}
@@ -33,7 +34,7 @@ abbrev pub body_in : RecordVersion → EntryValue → List ℕ
 body_in version (Whole slot device) = spelling version device
 body_in version (Changed slot change) = change
 
--- the bytes of an entry: its kind, its slot, the length of its body, and that
+-- the bytes of an entry: its kind, its slot, the length of its body, and the body
 abbrev pub entry : RecordVersion → EntryValue → List ℕ
 entry version e =
     kind_of e
@@ -58,15 +59,15 @@ AreEntries version es = AllByRecursion (IsEntry version) es
 abbrev pub entries : RecordVersion → List EntryValue → List ℕ
 entries version es = flat_map (entry version) es
 
--- the record that an entry leaves at its slot, on this table: the whole one, or the one to which
--- the change leads from the record that the slot has there
+-- the record that an entry leaves at its slot on this table: its whole record, or the one that its
+-- change makes of the record at that slot
 abbrev pub LeavesRecord : RecordVersion → TableState → EntryValue → Device → Type 0
 LeavesRecord version t (Whole slot device) after = after ≡ device
 LeavesRecord version t (Changed slot change) after =
     (before : Device) × (slice_get t.devices slot ≡ Some before)
     × IsChangeOf version before after change
 
--- an entry leads from one table to another: the record that it leaves may be put there, and is
+-- an entry leads from one table to another: the record that it leaves may be put there, and is put
 pub record Puts (version : RecordVersion) (t : TableState) (e : EntryValue)
     (u : TableState) : Type 0 where
   pub after : Device
@@ -74,7 +75,7 @@ pub record Puts (version : RecordVersion) (t : TableState) (e : EntryValue)
   pub can : CanPut t (slot_in e) after
   pub is : u ≡ with_record t (slot_in e) after
 
--- entries lead from one table to another, each from where those before it lead
+-- entries lead from one table to another, each from the table to which those before it lead
 abbrev pub EntriesLead : RecordVersion → TableState → List EntryValue → TableState → Type 0
 EntriesLead version t [] u = u ≡ t
 EntriesLead version t (e ∷ es) u =
@@ -88,8 +89,8 @@ pub record Replay (version : RecordVersion) (t : TableState) (bytes : List ℕ) 
   pub each : AreEntries version es
   pub leads : EntriesLead version t es u
 
--- Entries in front of these bytes, fewer than `count`, lead to a table, and behind them stands one
--- more that leaves a record there: for which memory may be wanted.
+-- Entries at the front of these bytes, fewer than `count`, lead to a table, and after them stands
+-- one more that leaves a record there. For that record memory may be needed.
 pub record ReplayGoesOn (version : RecordVersion) (t : TableState) (bytes : List ℕ)
     (count : ℕ) : Type 0 where
   pub front : List EntryValue
@@ -104,8 +105,8 @@ pub record ReplayGoesOn (version : RecordVersion) (t : TableState) (bytes : List
   pub after : Device
   pub leaves : LeavesRecord version here next after
 
--- the entry of a decision: the record that it leaves, where it found none; else the change from the
--- one that it found
+-- the entry of a decision: the record that it leaves if it found none; else the change from the one
+-- that it found
 abbrev pub IsEntryOf : RecordVersion → Decision → EntryValue → Type 0
 IsEntryOf version d e =
     MatchOption d.before (e ≡ Whole d.slot d.after)

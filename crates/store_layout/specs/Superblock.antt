@@ -4,7 +4,7 @@ use Rattle.std.specs.Int.{bytes_high_first}
 use Rattle.gate_log.specs.declared.layout.TheConstants.{OPEN, RECORDS_AT}
 use Rattle.store_layout.specs.declared.superblock.TheConstants.{JOURNAL_ROOM, RESERVED_ENTRY}
 
--- the length of an area: a gate and a header, the room for an entry of each slot, and the room for
+-- the length of an area: a gate and a header, the room for an entry for each slot, and the room for
 -- batches
 abbrev pub area_len : ℕ → ℕ
 area_len slots = RECORDS_AT + slots * RESERVED_ENTRY + JOURNAL_ROOM
@@ -13,7 +13,7 @@ area_len slots = RECORDS_AT + slots * RESERVED_ENTRY + JOURNAL_ROOM
 abbrev pub disk_len : ℕ → ℕ
 disk_len slots = 32 + 2 * area_len slots
 
--- what stands behind the superblock's gate: name, version 1, NetID, slots, length of an area, zeros
+-- what follows the superblock's gate: name, version 1, NetID, slots, length of an area, zeros
 abbrev pub superblock_body : ℕ → ℕ → List ℕ
 superblock_body net_id slots =
     codes "LNSTORE"

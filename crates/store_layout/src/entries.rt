@@ -1,4 +1,4 @@
-// Entries, written. Those of earlier versions are read alone.
+// Writes entries. Those of earlier versions are only read.
 ghost use Rattle.std.specs.Prelude.{◌≡◌, ◌≤◌, ◌<◌, ◌+◌, ◌*◌, ◌^◌, ◌∷◌, [], ◌++◌, ℕ, List};
 ghost use Rattle.std.specs.Prelude.{MatchResult, length, take};
 ghost use Rattle.std.specs.Int.{to_be_bytes, w16};
@@ -23,15 +23,15 @@ pub(crate) const WHOLE: u8 = 1;
 /// The kind of an entry that is a change.
 pub(crate) const CHANGED: u8 = 2;
 
-// The bytes of an entry in front of its body: its kind, its slot, and the length of its body.
+// The bytes of an entry before its body: its kind, its slot, and the length of its body.
 const FRONT_LEN: usize = 5;
 
-/// The most bytes of an entry: 5, and those that are reserved for a record.
+/// The largest entry, in bytes: 5, and those that are reserved for a record.
 pub const LONGEST_ENTRY: usize = FRONT_LEN + RESERVED_RECORD;
 
 /// Appends the entry of the whole record at a slot, in the newest version. Each byte of the record
-/// is written once, and no memory is taken but for the room of `out`. After an `Err`, which is want
-/// of that, nothing was appended.
+/// is written once, and only the room of `out` takes memory. An `Err` means that memory ran out,
+/// and nothing was appended.
 pub fn put_entry(slot: u16, device: &Device, out: &mut Vec<u8>) -> Result<(), Refusal>
     ensures { MatchResult result
         (λ _. (out.new.items ≡ out.old.items ++ entry newest (Whole slot device.now))
@@ -77,7 +77,7 @@ fn put_change_entry(
     }
 }
 
-// Takes back what was appended behind so many bytes, for want of memory.
+// Removes what was appended after this number of bytes, if memory ran out.
 fn taken_back(out: &mut Vec<u8>, len: usize) -> Refusal
     ensures value { result ≡ OutOfMemory }
     ensures items { out.new.items ≡ take len out.old.items }
@@ -96,8 +96,8 @@ fn put_front(out: &mut Vec<u8>, kind: u8, slot: u16) -> Result<(), AllocError>
     out.extend_from_slice(&[kind, s1, s0, 0, 0])
 }
 
-// Sets the length of the last entry, which begins at `at`: its body is all that stands behind its
-// front.
+// Sets the length of the last entry, which begins at `at`: its body is everything after its first
+// bytes.
 fn set_length(out: &mut Vec<u8>, at: usize)
     requires front { at + FRONT_LEN ≤ length out.old.items }
     requires short { length out.old.items < at + FRONT_LEN + 2 ^ 16 }
@@ -106,13 +106,13 @@ fn set_length(out: &mut Vec<u8>, at: usize)
         → out.new.items
         ≡ before ++ kind ∷ (to_be_bytes w16 slot ++ (to_be_bytes w16 (length body) ++ body)) }
 {
-    // It stands behind the kind and the slot.
+    // The length follows the kind and the slot.
     let [l1, l0] = ((out.len() - at - FRONT_LEN) as u16).to_be_bytes();
     out[at + 3] = l1;
     out[at + 4] = l0;
 }
 
-// Appends the entry of a decision: the record that it leaves, where it found none, else the change.
+// Appends the entry of a decision: the record that it leaves if it found none, else the change.
 // After an `Err` nothing was appended.
 fn put_decision(decision: &Decision, out: &mut Vec<u8>) -> Result<(), Refusal>
     ensures { MatchResult result
@@ -128,8 +128,8 @@ fn put_decision(decision: &Decision, out: &mut Vec<u8>) -> Result<(), Refusal>
 }
 
 /// Appends the entries of a batch in the newest version, one for each decision, in order. Each byte
-/// of a record is written once, and no memory is taken but for the room of `out`. After an `Err`,
-/// which is want of that, a beginning of them was appended.
+/// of a record is written once, and only the room of `out` takes memory. An `Err` means that memory
+/// ran out. Then some of the entries may have been appended, and no clause says which.
 pub fn put_batch(batch: &Batch, out: &mut Vec<u8>) -> Result<(), Refusal>
     ensures entries { MatchResult result
         (λ _. (bytes : List ℕ) × (out.new.items ≡ out.old.items ++ bytes)
@@ -146,8 +146,9 @@ pub fn put_batch(batch: &Batch, out: &mut Vec<u8>) -> Result<(), Refusal>
 }
 
 /// Appends the entries of a table in the newest version: the record of each device under its slot,
-/// in order of slots. Each byte of a record is written once, and no memory is taken but for the
-/// room of `out`. After an `Err`, which is want of that, a beginning of them was appended.
+/// in order of slots. Each byte of a record is written once, and only the room of `out` takes
+/// memory. An `Err` means that memory ran out. Then some of the entries may have been appended, and
+/// no clause says which.
 pub fn put_table(table: &Table, out: &mut Vec<u8>) -> Result<(), Refusal>
     ensures { MatchResult result
         (λ _. (out.new.items ≡ out.old.items ++ entries newest (entries_of_table table.now))

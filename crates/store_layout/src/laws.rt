@@ -1,4 +1,4 @@
-//! What follows from the layout alone. The functions do nothing: their contracts are the laws.
+//! What follows from the layout alone. These functions do nothing: their contracts are the laws.
 ghost use Rattle.std.specs.Prelude.{◌≡◌, ◌≤◌, ◌*◌, ℕ, List, length};
 ghost use Rattle.sessions.specs.Index.{HaveOwnSlots};
 ghost use Rattle.sessions.specs.Marks.{IsSound};
@@ -14,8 +14,8 @@ use crate::superblock::RESERVED_RECORD;
 use crate::{JOURNAL_ROOM, LONGEST_ENTRY, RESERVED_ENTRY, Superblock};
 use record_codec::laws;
 
-/// The entries of decisions that were made of a table replay on it, and lead to the table that the
-/// decisions leave.
+/// The entries of decisions that were made from a table replay on it, and lead to the table that
+/// the decisions leave.
 pub fn decisions_replay()
     ensures replay { (version : RecordVersion) (t : TableState) (ds : List Decision)
         (es : List EntryValue)
@@ -27,8 +27,8 @@ pub fn decisions_replay()
     sessions::laws::decided_records_may_be_put();
 }
 
-/// The entries of a table in which no two devices have one DevEUI replay on the table without
-/// devices, and lead to it.
+/// If no two devices of a table have the same DevEUI, its entries replay on the table without
+/// devices and lead to it.
 pub fn a_table_replays()
     ensures replay { (version : RecordVersion) (t : TableState) → HaveOwnSlots t.devices
         → length t.devices ≤ t.slots
@@ -39,7 +39,7 @@ pub fn a_table_replays()
     ensures number { (t : TableState) → length (entries_of_table t) ≡ length t.devices }
 {}
 
-/// Bytes are so many entries in one way at most, and lead to one table.
+/// Bytes are a given number of entries in at most one way, and lead to one table.
 pub fn bytes_replay_in_one_way()
     ensures entries { (version : RecordVersion) (t t' u u' : TableState) (bytes : List ℕ)
         (count : ℕ) (es fs : List EntryValue)
@@ -61,7 +61,7 @@ pub fn entries_are_short()
     laws::records_are_short();
 }
 
-/// Entries that are put on a table leave its network and its number of slots.
+/// Putting entries on a table leaves its network and its number of slots.
 pub fn entries_keep_the_network()
     ensures net_id { (version : RecordVersion) (t u : TableState) (es : List EntryValue)
         → EntriesLead version t es u → u.net_id ≡ t.net_id }
@@ -69,14 +69,14 @@ pub fn entries_keep_the_network()
         → EntriesLead version t es u → u.slots ≡ t.slots }
 {}
 
-/// Entries that are put on a sound table leave a sound one: no DevEUI comes to stand at two slots,
-/// and the sessions of each device stay in order.
+/// Putting entries on a sound table leaves a sound one: no DevEUI comes to stand at two slots, and
+/// the sessions of each device stay in order.
 pub fn entries_lead_to_sound_tables()
     ensures { (version : RecordVersion) (t u : TableState) (es : List EntryValue) → IsSound t
         → AreEntries version es → EntriesLead version t es u → IsSound u }
 {}
 
-/// The bytes of a superblock, the room of an area, and the most bytes of an entry and of a record.
+/// The length of a superblock, the room of an area, and the largest entry and record, in bytes.
 pub fn limits_are_these()
     ensures superblock { Superblock.LEN ≡ 32 }
     ensures record { RESERVED_RECORD ≡ 4300 }

@@ -1,4 +1,4 @@
-// Entries, replayed.
+// Replays entries.
 ghost use Rattle.std.specs.Prelude.{◌≡◌, ◌≢◌, ◌++◌, ℕ, List, IfErr, MatchResult};
 ghost use Rattle.devices.specs.declared.device.Device.{Device};
 ghost use Rattle.lw_types.specs.declared.refusal.Refusal.TheVariants.{OutOfMemory, Damaged};
@@ -27,8 +27,9 @@ enum Entry<'a> {
 }
 
 impl Entry<'_> {
-    // The slot, and the record that the entry leaves there on this table. Refused with `Damaged`
-    // exactly where it leaves none, and with `OutOfMemory` for want of memory, where it leaves one.
+    // Returns the slot, and the record that the entry leaves there on this table. Refused with
+    // `Damaged` exactly if it leaves none, and with `OutOfMemory` if memory runs out and it leaves
+    // one.
     fn record_on(
         self,
         alloc: Global,
@@ -53,7 +54,7 @@ impl Entry<'_> {
     }
 }
 
-// The record to which a change leads from that of a slot.
+// The record that a change makes of the one at a slot.
 fn changed_record(
     alloc: Global,
     version: RecordVersion,
@@ -101,8 +102,8 @@ fn entry_of(
     }
 }
 
-// The entry at the front of some bytes, and the bytes behind it. Refused with `Damaged` exactly
-// where none stands there, and with `OutOfMemory` for want of memory, where a whole record does.
+// The entry at the front of some bytes, and the bytes after it. Refused with `Damaged` exactly if
+// no entry stands there, and with `OutOfMemory` if memory runs out and a whole record stands there.
 fn read_entry(
     alloc: Global,
     version: RecordVersion,
@@ -131,10 +132,11 @@ fn read_entry(
     Ok((entry, behind))
 }
 
-/// Puts so many entries on a table, which are all of the bytes. Refused with `Damaged` exactly
-/// where the bytes aren't so many entries, or one of them may not be put; with `OutOfMemory` for
-/// want of memory, and only at an entry that leaves a record where those before it led. After an
-/// `Err` the table has a beginning of the entries, and is of no use.
+/// Puts this number of entries, which are all of the bytes, on a table. Refused with `Damaged` only
+/// if the bytes aren't this number of entries, or if one of them may not be put. Refused with
+/// `OutOfMemory` if memory runs out, and only at an entry that leaves a record on the table to
+/// which those before it led. After an `Err` drop the table: it may have some of the entries, and
+/// no clause says which.
 pub fn replay(
     alloc: Global,
     version: RecordVersion,

@@ -11,17 +11,17 @@ use lw_types::{NetId, Refusal};
 use sessions::Slots;
 
 /// The bytes that are reserved for a record, or for a change of one. The largest record has 4,252;
-/// the others are left to later versions of records.
+/// the rest is left for later versions of records.
 pub(crate) const RESERVED_RECORD: usize = 4_300;
 
 /// The bytes of an area that are reserved for the entry of each slot: 5 bytes, and 4,300 for a
 /// record.
 pub const RESERVED_ENTRY: u64 = 5 + 4_300;
 
-/// The bytes of an area that are left for batches: a mebibyte.
+/// The bytes of an area that are left for batches: one mebibyte.
 pub const JOURNAL_ROOM: u64 = 1_048_576;
 
-/// The network of a store, and how many devices it has room for.
+/// The network of a store, and the number of devices for which it has room.
 #[derive(Clone, Copy, PartialEq, Eq)]
 pub struct Superblock {
     pub net_id: NetId,
@@ -62,9 +62,9 @@ impl Superblock {
         32 + 2 * self.area_len()
     }
 
-    /// The superblock that these bytes are. Refused with `NotFormatted` where the gate is closed or
-    /// the name isn't there, else with `WrongVersion` where the version isn't 1, else with
-    /// `Damaged` where another field is out of its range.
+    /// The superblock that these bytes are. Refused with `NotFormatted` if the gate is closed or
+    /// the name is missing, else with `WrongVersion` if the version isn't 1, else with `Damaged` if
+    /// another field is out of its range.
     pub fn from_bytes(bytes: &[u8; 32]) -> Result<Self, Refusal>
         ensures found { IfOk result (λ s. bytes.now ≡ superblock s.net_id s.slots) }
         ensures in_range { IfOk result (λ s. (s.net_id < 64) × IsSlots s.slots) }
@@ -92,7 +92,7 @@ impl Superblock {
         }
     }
 
-    // This superblock, where the bytes are its own.
+    // This superblock, if the bytes are its own.
     fn checked(self, bytes: &[u8; 32]) -> Result<Self, Refusal>
         ensures same { (bytes.now ≡ superblock self.net_id self.slots) → result ≡ Ok self }
         ensures other { (bytes.now ≢ superblock self.net_id self.slots) → result ≡ Err Damaged }

@@ -1,5 +1,5 @@
 //! Tests of the public calls of the store: what it does, and what crashes and faults of its disk
-//! leave. They stand above it, so that it is proved once.
+//! leave. This crate stands above it, so that it is proved once.
 #![tactic(auto)]
 
 #[cfg(test)]

@@ -9,13 +9,13 @@ use test_stores::stores_under_test::{
     VERSION_B, begin_checkpoint, crashed, cut, opened, put, store_after, take,
 };
 
-// The front of the second area after a checkpoint of one device: its gate, version, generation,
+// The beginning of the second area after a checkpoint of one device: its gate, version, generation,
 // sequence number, number of records and their length.
 const CHECKPOINT: [u8; 30] = [
     0xA5, 2, 0, 0, 0, 0, 0, 0, 0, 2, 0, 0, 0, 0, 0, 0, 0, 1, 0, 0, 0, 1, 0, 0, 0, 0, 0, 0, 0, 63,
 ];
 
-// Whether the second area has the entry that the batch of the first one has, and behind it a closed
+// Whether the second area has the entry that the batch of the first one has, and after it a closed
 // gate.
 fn has_checkpoint(content: &[u8]) -> bool {
     if content.len() != LEN {
@@ -25,7 +25,7 @@ fn has_checkpoint(content: &[u8]) -> bool {
     area.starts_with(&CHECKPOINT) && area[30..93] == content[77..140] && area[93] != 0xA5
 }
 
-// A checkpoint that memory was refused leaves the store as it was, so that the next one goes well.
+// A checkpoint for which memory ran out leaves the store as it was, so the next one succeeds.
 fn made_at_last(alloc: Global, store: &mut Store<MemDisk>) -> Result<(), Refusal> {
     match take(alloc, store, 'c', ALL) {
         Err(Refusal::OutOfMemory) => take(alloc, store, 'c', ALL),
@@ -46,7 +46,7 @@ fn a_checkpoint_writes_what_the_layout_says(rt: HostRuntime) {
     assert!(rt; is_written(rt.alloc()) == Ok(true));
 }
 
-// The first calls of a checkpoint, which has four where the area is closed.
+// The first calls of a checkpoint, which has four if the area is closed.
 fn begin_again(alloc: Global, store: &mut Store<MemDisk>, calls: u64) -> Result<(), Refusal> {
     if store.must_retire() {
         return Err(Refusal::Backlog);
@@ -54,8 +54,8 @@ fn begin_again(alloc: Global, store: &mut Store<MemDisk>, calls: u64) -> Result<
     begin_checkpoint(alloc, store, calls)
 }
 
-// What is found after a checkpoint whose first call a crash cut off to this image, so many calls of
-// one that is begun again, and another crash.
+// What is found after a checkpoint whose first call is cut off by a crash to this image, this
+// number of calls of one that is begun again, and another crash.
 fn begun_again(alloc: Global, calls: u64, image: &Image) -> Result<(usize, u64), Refusal> {
     let mut disk = cut(alloc, "1", 'c', 1)?;
     disk.crash(image);
@@ -90,8 +90,8 @@ const DAMAGED: Answer = Err(Refusal::Damaged);
 
 const OTHER_VERSION: Answer = Err(Refusal::WrongVersion);
 
-// What other bytes of one disk, one after another, make an opening answer, where there is one. Each
-// opening takes back what the one before changed.
+// What openings of one disk return after other bytes, one after another. Each opening undoes the
+// changes of the one before.
 const OPENINGS: &[(usize, u8, Option<Answer>)] = &[
     // Nothing is changed.
     (GATE_A, 0xA5, Some(FOUND)),
@@ -105,7 +105,7 @@ const OPENINGS: &[(usize, u8, Option<Answer>)] = &[
     (GATE_B, 0, Some(FOUND)),
     (VERSION_B, 9, None),
     (LEN_B, 0x7F, Some(FOUND)),
-    // Both are closed, or of one generation: before any version is looked at.
+    // Both are closed, or of one generation: this is noticed before any version is read.
     (GATE_A, 0, Some(DAMAGED)),
     (GATE_B, 0xA5, None),
     (VERSION_B, 2, None),
@@ -114,7 +114,7 @@ const OPENINGS: &[(usize, u8, Option<Answer>)] = &[
     (LOW_A, 2, Some(DAMAGED)),
     (VERSION_A, 9, Some(DAMAGED)),
     (VERSION_B, 9, Some(DAMAGED)),
-    // The greater generation counts, and of the other area nothing else.
+    // The greater generation counts, and nothing else of the other area does.
     (LOW_A, 1, Some(OTHER_VERSION)),
     (VERSION_B, 2, Some(FOUND)),
     (LEN_A, 0x7F, Some(FOUND)),
@@ -122,7 +122,7 @@ const OPENINGS: &[(usize, u8, Option<Answer>)] = &[
     (VERSION_A, 2, Some(DAMAGED)),
     (LEN_A, 0, None),
     (VERSION_B, 9, Some(FOUND)),
-    // Generations have no sign, and one is at most 2^63 - 1; the version is looked at before.
+    // Generations have no sign, and one is at most 2^63 - 1; the version is tested before that.
     (HIGH_A, 0x7F, Some(FOUND)),
     (HIGH_A, 0x80, Some(DAMAGED)),
     (HIGH_A, 0, None),
@@ -142,7 +142,7 @@ const OPENINGS: &[(usize, u8, Option<Answer>)] = &[
     (SECOND_AREA + 32, 1, Some(DAMAGED)),
 ];
 
-// The place of the first byte whose opening has another answer.
+// The place of the first byte whose opening returns something else.
 fn first_other(alloc: Global, disk: &mut MemDisk) -> Result<Option<usize>, Refusal> {
     for (place, byte, wanted) in OPENINGS {
         put(disk, *place, &[*byte])?;
@@ -163,7 +163,7 @@ fn the_area_of_the_greater_generation_is_opened(rt: HostRuntime) {
     assert!(rt; other == Ok(None), "{other:?}");
 }
 
-// Whether an answer of an opening is a table, or one of the four faults of an image.
+// Whether the result of an opening is a table, or one of the four faults of an image.
 fn is_an_answer(answer: &Result<(usize, u64), Refusal>) -> bool {
     matches!(
         answer,
@@ -177,7 +177,7 @@ fn is_an_answer(answer: &Result<(usize, u64), Refusal>) -> bool {
     )
 }
 
-// Whether the disk with any of these bytes at a place has an answer. Leaves the disk as it was.
+// Whether the disk with any of these bytes at a place has such a result. Leaves the disk as it was.
 fn has_answers(alloc: Global, disk: &mut MemDisk, place: usize) -> Result<bool, Refusal> {
     let Some(was) = disk.content().get(place).copied() else {
         return Err(Refusal::CutShort);
@@ -191,7 +191,7 @@ fn has_answers(alloc: Global, disk: &mut MemDisk, place: usize) -> Result<bool, 
     Ok(has_answers)
 }
 
-// The first place in the front of both areas that has none.
+// The first place at the beginning of both areas that has none.
 fn first_without(alloc: Global, disk: &mut MemDisk) -> Result<Option<usize>, Refusal> {
     for place in (0..GATE_A + 200).chain(GATE_B..GATE_B + 200) {
         if !has_answers(alloc, disk, place)? {
@@ -211,7 +211,7 @@ fn any_byte_of_a_front_has_an_answer(rt: HostRuntime) {
     assert!(rt; without == Ok(None), "{without:?}");
 }
 
-// The answers of two checkpoints and a commit in a store whose live area has a generation with
+// The results of two checkpoints and a commit in a store whose live area has a generation with
 // these bytes; the number of the store then, and what is found.
 fn last(alloc: Global, generation: &[u8]) -> Result<Answers, Refusal> {
     let mut disk = two_generations(alloc)?;

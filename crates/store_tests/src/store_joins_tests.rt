@@ -16,7 +16,7 @@ const JOIN_2: &str = "00080706050403020118171615141312110200C13BE455";
 
 const JOIN_3: &str = "00080706050403020118171615141312110300E85E42DA";
 
-// What a letter asks for: `b` brings the device, and a digit is its Join-Request with this
+// What a letter asks for: `b` provisions the device, and a digit is its Join-Request with this
 // DevNonce.
 fn command(alloc: Global, letter: char) -> Result<Command, Refusal> {
     match letter {
@@ -43,7 +43,7 @@ fn add_all(
     Ok(())
 }
 
-// A batch of what these letters ask for, behind what the store has.
+// A batch of what these letters ask for, after what the store has.
 fn batch(alloc: Global, store: &Store<MemDisk>, letters: &str) -> Result<Batch, Refusal> {
     let mut batch = Batch::new(alloc)?;
     let mut table = store.table().copy()?;
@@ -105,10 +105,10 @@ fn found_again(
     }
 }
 
-// What a batch asks for, and what it leads to.
+// What a batch contains, and what it leads to.
 type Leads = (&'static str, Joined);
 
-// Whether batches, one after the other, are found again, each after a crash.
+// Whether batches, one after the other, are recovered, each after a crash.
 fn are_found(alloc: Global, batches: &[Leads]) -> Result<(), Refusal> {
     let mut store = new_store(alloc, 8)?;
     for (letters, wanted) in batches {
@@ -130,7 +130,7 @@ fn a_record_of_a_slot_in_use_is_replaced(rt: HostRuntime) {
     assert!(rt; are_found(rt.alloc(), THREE) == Ok(()), "three in a batch");
 }
 
-// What a crash behind the first calls of the commit of such a batch leaves, of a device that was
+// What a crash after the first calls of the commit of such a batch leaves, for a device that was
 // provisioned.
 fn left(
     alloc: Global,
@@ -152,7 +152,7 @@ const PROVISIONED: Joined = (1, None);
 // One join, and three of one slot in a batch.
 const BATCHES: &[Leads] = &[("1", (2, Some(1))), ("123", (4, Some(3)))];
 
-// The calls that are made, and whether the batch is left of the old bytes, of the new ones and of
+// The calls that are made, and whether the batch is left in the old bytes, in the new ones and in
 // open gates: the body may be torn, and is synced; the gate may be torn, and is synced.
 const CALLS: &[(u64, bool, bool, bool)] = &[
     (1, false, false, false),

@@ -1,4 +1,4 @@
-// Tables of older copies, and stores that have a table from the start.
+// Tables of older copies, and stores that have a table from the beginning.
 use devices::{Activation, GrantsSince};
 use disk::{Image, Sim};
 use lw_types::{Eui, JoinNonce, Refusal};
@@ -10,7 +10,7 @@ use test_stores::stores_under_test::{LEN, blank, crashed};
 
 const DEV_EUI: u64 = 1;
 
-// A table of one device, which was granted this JoinNonce last; none for 0.
+// A table of one device, whose last granted JoinNonce was this one; none for 0.
 fn older(alloc: Global, granted: u32) -> Result<Table, Refusal> {
     let mut table = new_table(alloc, 8)?;
     let mut device = idle_device(alloc, DEV_EUI)?;
@@ -20,8 +20,8 @@ fn older(alloc: Global, granted: u32) -> Result<Table, Refusal> {
     Ok(table)
 }
 
-// The JoinNonce last granted once so many joins behind the copy count, or the device that has too
-// few left.
+// The JoinNonce last granted once this number of joins after the copy count, or the device that has
+// too few left.
 fn restored(alloc: Global, granted: u32, since: u64) -> Result<Result<u32, Eui>, Refusal> {
     let mut table = older(alloc, granted)?;
     let since = GrantsSince::new(since).ok_or(Refusal::Damaged)?;
@@ -56,7 +56,7 @@ fn grants_go_on_above_those_that_count(rt: HostRuntime) {
 }
 
 // What is opened after a crash to this image, if a store of one device and the number 1 is made by
-// so many calls, and the next one fails.
+// this number of calls, and the next one fails.
 fn cut(alloc: Global, calls: u64, image: &Image) -> Result<(usize, u64), Refusal> {
     let mut disk = blank(alloc, LEN)?;
     disk.arm(calls.saturating_add(1));
@@ -78,8 +78,8 @@ fn positions(alloc: Global) -> Result<Image, Refusal> {
     Ok(Image::Bytes(bytes))
 }
 
-// Whether the store is found whole after so many calls, of the old bytes, of the new ones, of open
-// gates and of the low 8 bits of the positions; else there is none.
+// Whether the store is found whole after this number of calls, in the old bytes, in the new ones,
+// in open gates and in the low 8 bits of the positions; otherwise there is none.
 const CUTS: &[(u64, [bool; 4])] = &[
     (0, [false, false, false, false]),
     (1, [false, false, false, false]),
@@ -119,7 +119,7 @@ fn a_store_of_a_table_that_is_cut_is_none_or_whole(rt: HostRuntime) {
     }
 }
 
-// What a disk of this length is refused.
+// The refusal for a disk of this length.
 fn refused(alloc: Global, len: usize) -> Result<Option<Refusal>, Refusal> {
     match establish_back(alloc, blank(alloc, len)?, older(alloc, 1)?, 1) {
         Ok(_) => Ok(None),

@@ -1,4 +1,4 @@
-// New stores, commits, crashes in the midst of commits and checkpoints, and failing disks.
+// New stores, commits, crashes during commits and checkpoints, and failing disks.
 use disk::{Image, MemDisk, Sim};
 use lw_types::Refusal;
 use sessions::{Batch, Table};
@@ -11,7 +11,7 @@ use test_stores::stores_under_test::{
     store_after, take, take_all,
 };
 
-// What a format is refused, of so many slots on a disk of this length.
+// The refusal of a format of this number of slots on a disk of this length.
 fn refused(alloc: Global, slots: u64, len: usize) -> Result<Option<Refusal>, Refusal> {
     Ok(format(alloc, blank(alloc, len)?, net_id()?, slots).err())
 }
@@ -31,7 +31,8 @@ fn a_disk_that_is_no_stores_is_not_formatted(rt: HostRuntime) {
     }
 }
 
-// What is opened after a crash that leaves open gates, of a format that fails behind so many calls.
+// What is opened after a crash that leaves open gates, of a format that fails after this number of
+// calls.
 fn cut_format(alloc: Global, calls: u8) -> Result<(usize, u64), Refusal> {
     let mut disk = blank(alloc, LEN)?;
     disk.arm(u64::from(calls) + 1);
@@ -57,8 +58,8 @@ fn a_format_that_is_cut_leaves_no_store_or_a_new_one(rt: HostRuntime) {
     }
 }
 
-// Whether a new store has no devices, and its disk the length and the front of its layout with a
-// closed gate in each area.
+// Whether a new store has no devices, and its disk has the length and the beginning of its layout,
+// with a closed gate in each area.
 fn is_new(alloc: Global) -> Result<bool, Refusal> {
     let store = new_store(alloc, 8)?;
     let is_empty = store.roomy() && store.seq() == 0 && store.table().devices().is_empty();
@@ -76,10 +77,10 @@ fn a_new_store_has_its_layout_and_no_devices(rt: HostRuntime) {
     assert!(rt; is_new(rt.alloc()) == Ok(true));
 }
 
-// A byte that stands nowhere on the disks of these tests.
+// A byte that doesn't occur on the disks of these tests.
 const TORN: u8 = 0xDD;
 
-// The first position that is open then, how many are, and the gates of both areas.
+// The first position that is then open, the number of open ones, and the gates of both areas.
 type Open = (Option<usize>, usize, u8, u8);
 
 fn open_positions(alloc: Global, steps: &str, last: char, calls: u64) -> Result<Open, Refusal> {
@@ -94,14 +95,14 @@ fn open_positions(alloc: Global, steps: &str, last: char, calls: u64) -> Result<
     Ok((first, count, gates.0, gates.1))
 }
 
-// Steps, and so many calls of a last one.
+// Steps, and this number of calls of a last one.
 const OPEN_POSITIONS: &[(&str, char, u64, Open)] = &[
-    // A commit of five writes 330 bytes behind its gate, and then that.
+    // A commit of five writes 330 bytes after its gate, and then that gate.
     ("", '5', 1, (Some(63), 330, 0xA5, 0)),
     ("", '5', 2, (None, 0, 0xA5, 0)),
     ("", '5', 3, (Some(62), 1, 0xA5, 0)),
     ("", '5', 4, (None, 0, 0xA5, 0)),
-    // The first checkpoint writes 93 bytes behind the second area's gate, and then that.
+    // The first checkpoint writes 93 bytes after the second area's gate, and then that gate.
     ("1", 'c', 1, (Some(1_083_079), 93, 0xA5, 0)),
     ("1", 'c', 2, (None, 0, 0xA5, 0)),
     ("1", 'c', 3, (Some(1_083_078), 1, 0xA5, 0xA5)),
@@ -123,10 +124,10 @@ fn commits_and_checkpoints_write_what_the_layout_says(rt: HostRuntime) {
     }
 }
 
-// What is found of the old bytes, of the new ones and of open gates.
+// What is found in the old bytes, in the new ones and in open gates.
 type Images = ((usize, u64), (usize, u64), (usize, u64));
 
-// What a crash to an image leaves after these steps, and so many calls of a last one.
+// What a crash to an image leaves after these steps, and this number of calls of a last one.
 fn left_of(
     alloc: Global,
     steps: &str,
@@ -161,11 +162,11 @@ fn a_crash_leaves_all_of_a_batch_or_nothing(rt: HostRuntime) {
     }
 }
 
-// Steps before a checkpoint, how many calls it has, and how many devices are there.
+// Steps before a checkpoint, the number of its calls, and the number of devices.
 const CHECKPOINTS: &[(&str, u64, (usize, u64))] = &[
     ("1", 4, (1, 1)),
     ("1c", 6, (1, 1)),
-    // Over an old one, behind which a device came.
+    // Over an old one, after which a device came.
     ("1c1", 6, (2, 2)),
 ];
 
@@ -213,8 +214,8 @@ fn a_store_goes_on(rt: HostRuntime) {
     }
 }
 
-// Answers of a step, of the same step again and of a commit after it; the number of the store then,
-// and what is found.
+// The results of a step, of the same step again and of a commit after it; the number of the store
+// then, and what is found.
 pub type Answers = (Three, u64, (usize, u64));
 
 pub type Three = (
@@ -233,7 +234,7 @@ pub fn answers(alloc: Global, mut store: Store<MemDisk>, step: char) -> Result<A
     Ok((answers, seq, found(alloc, store.close())?))
 }
 
-// Those of a store after some steps whose call behind so many fails, and no other.
+// Those of a store after some steps, if only the call after this number of calls fails.
 fn failing(alloc: Global, steps: &str, step: char, calls: u8) -> Result<Answers, Refusal> {
     let mut store = store_after(alloc, steps)?;
     store.arm(3);
@@ -241,7 +242,7 @@ fn failing(alloc: Global, steps: &str, step: char, calls: u8) -> Result<Answers,
     answers(alloc, store, step)
 }
 
-// The answers where so many steps are done before the failure.
+// The results if this number of steps are done before the failure.
 fn done_before(steps: u8) -> Three {
     let (fails, failed) = (Err(Refusal::DeviceFailed), Err(Refusal::Failed));
     match steps {
@@ -251,15 +252,15 @@ fn done_before(steps: u8) -> Three {
     }
 }
 
-// Steps, and the calls of commits behind them that go well; how many commits are done, the number
-// then, and how many devices are found.
+// Steps, and the calls of commits after them that succeed; the number of commits that are done, the
+// number then, and the number of devices that are found.
 const FAILURES: &[(&str, u8, u8, u64, u64)] = &[
     ("", 0, 0, 0, 0),
     // The sync of the body, and that of the gate.
     ("1", 1, 0, 1, 1),
     ("1", 3, 0, 1, 2),
     ("", 3, 0, 0, 1),
-    // Over the end of a commit too.
+    // Also over the end of a commit.
     ("", 4, 1, 1, 1),
     ("", 7, 1, 1, 2),
     ("", 8, 2, 2, 2),
@@ -274,7 +275,7 @@ fn a_store_that_failed_is_opened_again(rt: HostRuntime) {
     }
 }
 
-// Steps, and how many calls a checkpoint has then.
+// Steps, and the number of calls that a checkpoint has then.
 const FAILING_CHECKPOINTS: &[(&str, u8)] = &[("11", 4), ("1c1", 6)];
 
 #[test]
@@ -291,14 +292,14 @@ fn a_store_whose_checkpoint_failed_is_opened_again(rt: HostRuntime) {
 // Batches that are out of step with a store that has one device.
 #[derive(Clone, Copy)]
 enum Other {
-    /// It is made of an empty table.
+    /// It is made from an empty table.
     Twice,
-    /// It jumps a number.
+    /// It skips a number.
     Jumping,
     /// There is none.
     Empty,
-    /// Two decisions that were made of one table, numbered on: the second was not made of what the
-    /// first leaves.
+    /// Two decisions that were made from one table, with consecutive numbers: the second was not
+    /// made from what the first leaves.
     BothOfOneTable,
 }
 
@@ -344,7 +345,7 @@ const OTHERS: &[Other] = &[
     Other::BothOfOneTable,
 ];
 
-// Whether each of them is, and the store goes on with two devices more.
+// Whether each of them is, and the store goes on with two more devices.
 fn continues(alloc: Global, store: &mut Store<MemDisk>) -> bool {
     for other in OTHERS {
         if is_out_of_step(alloc, store, *other) != Ok(true) {

@@ -1,4 +1,4 @@
-// The devices that tests bring, and batches of their provisionings.
+// The devices that tests provision, and batches of their provisionings.
 ghost use Rattle.std.specs.Prelude.{◌<◌, length};
 
 use devices::{
@@ -14,7 +14,7 @@ pub fn net_id() -> Result<NetId, Refusal> {
     NetId::new(0x2A).ok_or(Refusal::Damaged)
 }
 
-/// So many slots, from 1 to 4,096.
+/// This number of slots, from 1 to 4,096.
 pub fn slots(slots: u64) -> Result<Slots, Refusal> {
     Slots::new(slots).ok_or(Refusal::Damaged)
 }
@@ -32,7 +32,7 @@ pub const JOINER_KEY: Key = Key([
     0x2B, 0x7E, 0x15, 0x16, 0x28, 0xAE, 0xD2, 0xA6, 0xAB, 0xF7, 0x15, 0x88, 0x09, 0xCF, 0x4F, 0x3C,
 ]);
 
-/// The command that brings it.
+/// The command that provisions it.
 pub fn joining() -> Result<Command, Refusal> {
     match provisioning(JOINER, JOINER_KEY) {
         Some(provisioning) => Ok(Command::Provision(provisioning)),
@@ -51,12 +51,12 @@ const HEARING: Hearing = Hearing {
     stamp: 50_000,
 };
 
-/// The command of the frame of these hexadecimal digits, which one gateway heard.
+/// The command of the frame with these hexadecimal digits, which one gateway heard.
 pub fn heard(alloc: Global, digits: &str) -> Result<Command, Refusal> {
     heard_frame(alloc, read_hex(alloc, digits)?)
 }
 
-/// The same of a frame that it heard on this channel.
+/// The same for a frame that it heard on this channel.
 pub fn heard_on(alloc: Global, digits: &str, frequency: u32) -> Result<Command, Refusal> {
     let mut hearing = HEARING;
     hearing.reception.frequency = frequency;
@@ -102,7 +102,7 @@ pub fn provisionings(alloc: Global, table: &Table, seq: u64, count: u64) -> Resu
     Ok(batch)
 }
 
-/// The command that brings a device of this DevEUI.
+/// The command that provisions a device with this DevEUI.
 pub fn bringing(dev_eui: u64) -> Result<Command, Refusal> {
     match provisioning(dev_eui, PLAIN_KEY) {
         Some(provisioning) => Ok(Command::Provision(provisioning)),
@@ -127,7 +127,7 @@ fn add_provisionings(
 }
 
 /// Decides a command on the table, under the number after `seq`, and adds the decision to the
-/// batch, which is thrown away where the table doesn't admit it.
+/// batch, which is dropped if the table doesn't admit it.
 pub fn add(
     alloc: Global,
     table: &mut Table,
@@ -147,7 +147,7 @@ pub fn add(
     }
 }
 
-/// Puts the record of a decision on the table, where that admits it.
+/// Puts the record of a decision on the table, if that admits it.
 pub fn apply(table: &mut Table, seq: u64, decision: &Decision) -> Result<(), Refusal> {
     if table.admits(seq, decision) {
         table.apply(decision)
@@ -156,7 +156,7 @@ pub fn apply(table: &mut Table, seq: u64, decision: &Decision) -> Result<(), Ref
     }
 }
 
-/// A device that was provisioned, and no more.
+/// A device that was only provisioned.
 pub fn idle_device(alloc: Global, dev_eui: u64) -> Result<Device, Refusal> {
     match provisioning(dev_eui, PLAIN_KEY) {
         Some(provisioning) => Ok(Device::provisioned(alloc, &provisioning)),

@@ -1,4 +1,4 @@
-//! Devices, stores and images that the tests of several crates share. It is of use to tests alone.
+//! Devices, stores and images that the tests of several crates share. Only tests use it.
 #![tactic(auto)]
 
 pub mod devices_under_test;

@@ -55,8 +55,8 @@ pub fn new_store(alloc: Global, count: u64) -> Result<Store<MemDisk>, Refusal> {
     format(alloc, blank(alloc, len)?, net_id()?, count)
 }
 
-/// All calls of a commit, which has four, and of a checkpoint, which has four, or six where the
-/// other area is open.
+/// All calls of a commit, which has four, and of a checkpoint, which has four, or six if the other
+/// area is open.
 pub const ALL: u64 = 6;
 
 /// The first calls of a commit.
@@ -208,8 +208,8 @@ fn open_gate<D: Disk>(
     }
 }
 
-/// The first calls of a step: `c` is a checkpoint; a digit, `x` and `m` are commits of so many
-/// provisionings, of ten, and of as many as a batch may have.
+/// The first calls of a step: `c` is a checkpoint; a digit, `x` and `m` are commits of this number
+/// of provisionings, of ten, and of as many as a batch may have.
 pub fn take(
     alloc: Global,
     store: &mut Store<MemDisk>,
@@ -229,7 +229,7 @@ pub fn take(
     begin_commit(alloc, store, batch, calls)
 }
 
-/// Takes these steps whole.
+/// Takes these steps completely.
 pub fn take_all(alloc: Global, store: &mut Store<MemDisk>, steps: &str) -> Result<(), Refusal> {
     for step in steps.chars() {
         take(alloc, store, step, ALL)?;
@@ -246,7 +246,7 @@ pub fn store_after(alloc: Global, steps: &str) -> Result<Store<MemDisk>, Refusal
     }
 }
 
-/// The disk of a store with 8 slots after these steps, and so many calls of a last one.
+/// The disk of a store with 8 slots after these steps, and this number of calls of a last one.
 pub fn cut(alloc: Global, steps: &str, last: char, calls: u64) -> Result<MemDisk, Refusal> {
     let mut store = store_after(alloc, steps)?;
     match take(alloc, &mut store, last, calls) {
@@ -255,8 +255,8 @@ pub fn cut(alloc: Global, steps: &str, last: char, calls: u64) -> Result<MemDisk
     }
 }
 
-/// How many devices a store has, and its number. It is damaged where the device of the DevEUI 1
-/// isn't in the first slot, or that of the number not in the last one.
+/// The number of devices of a store, and the store's number. It is damaged if the device of the
+/// DevEUI 1 isn't in the first slot, or that of the number not in the last one.
 pub fn state_of(store: &Store<MemDisk>) -> Result<(usize, u64), Refusal> {
     let (table, seq) = (store.table(), store.seq());
     let count = table.devices().len();
@@ -283,7 +283,7 @@ pub fn crashed(alloc: Global, mut disk: MemDisk, image: &Image) -> Result<(usize
     found(alloc, disk)
 }
 
-/// The devices and the number of the store that is opened on a disk, which is put back.
+/// The devices and the number of the store that is opened on a disk, which is then put back.
 pub fn opened(alloc: Global, disk: &mut MemDisk) -> Result<(usize, u64), Refusal> {
     let whole = mem::replace(disk, MemDisk::new(alloc, Vec::new(alloc))?);
     match open_back(alloc, whole) {
@@ -299,7 +299,7 @@ pub fn opened(alloc: Global, disk: &mut MemDisk) -> Result<(usize, u64), Refusal
     }
 }
 
-/// Puts these bytes at a place of the disk.
+/// Writes these bytes at a place of the disk.
 pub fn put(disk: &mut MemDisk, place: usize, bytes: &[u8]) -> Result<(), Refusal> {
     let (place, len) = (place as u64, bytes.len() as u64);
     if len > disk.len() || place > disk.len() - len {

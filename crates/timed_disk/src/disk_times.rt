@@ -3,11 +3,11 @@ use std::sync::atomic::AtomicU64;
 use std::sync::atomic::Ordering::SeqCst;
 use std::time::Duration;
 
-// From how long on a sync counts as slow, in milliseconds.
+// A sync of at least this many milliseconds counts as slow.
 const SLOW: u64 = 100;
 
-/// How long the syncs of a disk took, and how many checkpoints were written. No clause says what it
-/// tells: the calls of another thread may come at any moment.
+/// How long the syncs of a disk took, and how many checkpoints were written. No clause says which
+/// numbers it returns, since another thread may make calls at any moment.
 #[derive(Drop)]
 pub struct DiskTimes {
     syncs: AtomicU64,
@@ -20,7 +20,7 @@ pub struct DiskTimes {
 }
 
 impl DiskTimes {
-    /// No call was made yet.
+    /// Times of a disk on which no call was made yet.
     pub fn new() -> Self {
         DiskTimes {
             syncs: AtomicU64::new(0),
@@ -31,34 +31,34 @@ impl DiskTimes {
         }
     }
 
-    /// The syncs so far, also those that failed.
+    /// The number of syncs so far, including those that failed.
     pub fn syncs(&self) -> u64 {
         self.syncs.load(SeqCst)
     }
 
-    /// How long the longest one took, in microseconds.
+    /// The time of the longest sync, in microseconds.
     pub fn longest_sync(&self) -> u64 {
         self.longest_sync.load(SeqCst)
     }
 
-    /// The checkpoints so far.
+    /// The number of checkpoints so far.
     pub fn checkpoints(&self) -> u64 {
         self.checkpoints.load(SeqCst)
     }
 
-    /// How long the longest sync took since this was asked last, in milliseconds, where it was
-    /// slow: 100 ms or more.
+    /// The longest sync since the last call of this function, in milliseconds, if it was slow: 100
+    /// ms or more.
     pub fn take_slow_sync(&self) -> Option<u64> {
         let slow = self.slow_sync.swap(0, SeqCst);
         if slow > 0 { Some(slow) } else { None }
     }
 
-    /// How many checkpoints were written since this was asked last.
+    /// The number of checkpoints written since the last call of this function.
     pub fn take_checkpoints(&self) -> u64 {
         self.new_checkpoints.swap(0, SeqCst)
     }
 
-    // A sync took so long.
+    // Counts a sync that took this time.
     pub(crate) fn add_sync(&self, took: Duration) {
         self.syncs.fetch_add(1, SeqCst);
         let micros = u64::try_from(took.as_micros()).unwrap_or(u64::MAX);
@@ -69,7 +69,7 @@ impl DiskTimes {
         }
     }
 
-    // A checkpoint was written.
+    // Counts a checkpoint that was written.
     pub(crate) fn add_checkpoint(&self) {
         self.checkpoints.fetch_add(1, SeqCst);
         self.new_checkpoints.fetch_add(1, SeqCst);

@@ -1,5 +1,5 @@
-//! A disk that does what another one does, times its syncs, and counts the checkpoints of the store
-//! on it, for whoever operates a server.
+//! A disk that passes its calls to another one, times its syncs, and counts the checkpoints of the
+//! store on it. Operators see these numbers.
 #![tactic(auto)]
 
 mod disk_times;

@@ -6,13 +6,13 @@ use crate::DiskTimes;
 use disk::{DeviceFailed, Disk};
 use std::time::{Clock, Duration, Instant};
 
-// How many bytes a store has before its two areas, each of which begins with a gate.
+// The number of bytes that a store has before its two areas, each of which begins with a gate.
 const BEFORE_AREAS: u64 = 32;
 
 // The byte of a gate that is open.
 const OPEN: u8 = 0xA5;
 
-/// A disk that is timed by a clock. Its calls are those of the disk that it was made of.
+/// A disk that is timed by a clock. Its calls are those of the disk from which it was made.
 #[derive(Drop)]
 pub struct TimedDisk<'x, D: Disk + Drop, C: Clock + Drop> {
     disk: D,
@@ -21,7 +21,7 @@ pub struct TimedDisk<'x, D: Disk + Drop, C: Clock + Drop> {
 }
 
 impl<'x, D: Disk + Drop, C: Clock + Drop> TimedDisk<'x, D, C> {
-    /// This disk, whose calls are told from here on.
+    /// This disk. Its calls are timed from now on.
     pub fn new(disk: D, clock: C, times: &'x DiskTimes) -> Self
         ensures { result.disk ≡ disk }
     {
@@ -35,7 +35,7 @@ impl<'x, D: Disk + Drop, C: Clock + Drop> TimedDisk<'x, D, C> {
             && (at == BEFORE_AREAS || at == BEFORE_AREAS.saturating_add(areas))
     }
 
-    // How long it is since then. A clock that can't be read tells no time.
+    // The time since then, or 0 if the clock can't be read.
     fn since(&self, then: Option<Instant>) -> Duration {
         match then {
             Some(then) => then.elapsed(&self.clock).unwrap_or(Duration::ZERO),

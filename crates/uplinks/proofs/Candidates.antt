@@ -1,4 +1,4 @@
--- The trials of a device's sessions, in the words of its candidates.
+-- The trials of a device's sessions, stated by its candidates.
 use Rattle.std.proofs.Common.{◌≡◌, ℕ, Bool, true, false, cond, List, [], ◌∷◌, ◌++◌, Option, Some, None, ap, refl}
 use Rattle.counters.specs.declared.Rebuilt.{Rebuilt}
 use Rattle.counters.specs.declared.Rebuilt.TheVariants as counter
@@ -14,7 +14,7 @@ use Rattle.uplinks.specs.declared.fit.Trial.TheVariants.{OtherDevAddr, BadCounte
 use Rattle.uplinks.specs.Fit.{current_trial, fit_of, later_trial, is_for, is_signed, try_current, try_pending, verdict, pending_trial}
 use Rattle.uplinks.specs.Candidates.{Candidate, Pending, Current, candidates, current_candidates, pending_candidates, fit_in, fit_in_current, fit_in_pending, has_mic, verdict_among}
 
--- how far the frame comes into these sessions, of which there is one at most
+-- how far the frame gets in these sessions, of which there is at most one
 IsTrial : DataFrame → Trial → List Candidate → Type 0
 IsTrial frame OtherDevAddr cs = cs ≡ []
 IsTrial frame BadCounter cs = (c : Candidate) × (cs ≡ c ∷ []) × (fit_in frame c ≡ None)

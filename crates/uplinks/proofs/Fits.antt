@@ -30,7 +30,7 @@ apart-forged fit h = cc
 same-fit : (a b : Fit) → Fits a ≡ Fits b → a ≡ b
 same-fit a b h = cc
 
--- where a frame is signed or forged, it fits only so
+-- if a frame fits, whether it is signed or forged decides how
 if_fits : (signed : Bool) (a b : Fit) → cond signed (Fits a) BadMic ≡ Fits b → a ≡ b
 if_fits true a b h = same-fit a b h
 if_fits false a b h = absurd (apart-forged b h)
@@ -101,7 +101,7 @@ fit_is grow net_id slot g frame fit h =
     either (IsOf g fit) (try_pending net_id slot g.pending frame) (try_current net_id slot g.current frame) fit
     (waiting_is net_id slot g frame fit) (current_is grow net_id slot g frame fit) h
 
--- so it is of a result that is one
+-- so is the fit of a result that is one
 pub if_fit_is : {E : Type 0} {wanted : Result Fit E} (g : Grants) → ((fit : Fit) → wanted ≡ Ok fit → IsOf g fit) → (r : Result Fit E) → r ≡ wanted → IfOk r (λ fit. IsOf g fit)
 if_fit_is g law (Ok fit) is = law fit (sym is)
 if_fit_is g law (Err e) is = tt

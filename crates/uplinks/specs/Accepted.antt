@@ -24,25 +24,25 @@ use Rattle.uplinks.specs.declared.uplink.Uplink.{Uplink}
 
 -- ---- the session
 
--- the session in which the device is after an uplink
+-- the session of the device after an uplink
 abbrev pub session_after : Fit → CurrentSession
 session_after (First s counter) = record { session = s; last_up = counter; next_down = 0 }
 session_after (Next c counter) = record c { last_up = counter }
 session_after (Again c) = c
 
--- the device's sessions after an uplink: a pending one is current from now on
+-- the device's sessions after an uplink: a pending one becomes the current one
 abbrev pub grants_after : Grants → Fit → Grants
 grants_after g (First s counter) = with_current g s counter
 grants_after g (Next c counter) = with_last_up g c counter
 grants_after g (Again c) = g
 
--- how many uplinks of the device are counted after an uplink: one that comes again isn't one more
+-- the count of the device's uplinks after an uplink: one that comes again isn't counted again
 abbrev pub heard_after : Fit → ℕ → ℕ
 heard_after (First s counter) heard = one_more_heard heard
 heard_after (Next c counter) heard = one_more_heard heard
 heard_after (Again c) heard = heard
 
--- the device's record with the uplink's session and counter, and one uplink more where it is new;
+-- the device's record with the uplink's session and counter, and with one uplink more if it is new;
 -- no item is awaited any more
 abbrev pub with_uplink : Device → Fit → Device
 with_uplink d fit =
@@ -54,7 +54,8 @@ with_uplink d fit =
 
 -- ---- the item that was awaited
 
--- whether the uplink acknowledges the last confirmed downlink, which was of the same session
+-- whether the uplink acknowledges the last confirmed downlink. That downlink was in the same
+-- session
 abbrev pub is_acknowledgement : Fit → Uplink → Bool
 is_acknowledgement (First s counter) u = false
 is_acknowledgement (Next c counter) u = u.ack
@@ -66,8 +67,8 @@ awaited_report d acked (Some tag) = report_effects d (if acked then Acked tag el
 
 -- ---- MAC commands
 
--- the MAC commands of the uplink: on port 0 they are encrypted under the NwkSKey (§4.3.2), else
--- they stand in FOpts
+-- the MAC commands of the uplink: on port 0 they are encrypted under the NwkSKey (§4.3.2),
+-- otherwise they are in FOpts
 abbrev pub mac_bytes : DevAddr → CurrentSession → List ℕ → Option PortPayload → List ℕ
 mac_bytes addr c opts None = opts
 mac_bytes addr c opts (Some sent) =
@@ -77,16 +78,16 @@ mac_bytes addr c opts (Some sent) =
 abbrev pub sent_commands : CurrentSession → Uplink → List ℕ
 sent_commands c u = mac_bytes u.frame.dev_addr c u.frame.contents.f_opts u.frame.contents.message
 
--- those that the network doesn't answer itself are reported, if there are any
+-- the commands that the network doesn't answer itself are reported, if there are any
 abbrev pub mac_report : Device → CurrentSession → List ℕ → List Effect
 mac_report d c [] = []
 mac_report d c (byte ∷ bytes) = report_effects d (Mac c.session.join_nonce (byte ∷ bytes))
 
 -- ---- the payload
 
--- whether an FPort is one of applications, 1 to 223; 224 is that of the standard's test protocol,
--- and those above are reserved (§4.3.2): what comes on them is no application's, by this project's
--- choice
+-- whether an FPort is an application's, from 1 to 223. Port 224 is that of the standard's test
+-- protocol, and those above are reserved (§4.3.2); by this project's choice their payloads go to no
+-- application
 abbrev pub is_application : ℕ → Bool
 is_application port = nat_lt 0 port && nat_lt port 224
 
@@ -116,7 +117,7 @@ demand_of c u heard by =
       copies = heard;
     }
 
--- the effects before the answer, in their order
+-- the effects before the answer, in order
 abbrev pub effects_before_answer : Device → Fit → Uplink → ℕ → Hearing → List Effect
 effects_before_answer d fit u copies best =
     let c = session_after fit in
@@ -127,7 +128,7 @@ effects_before_answer d fit u copies best =
 abbrev pub with_effects : List Effect → DeviceStep → DeviceStep
 with_effects before o = device_step o.device (before ++ o.effects)
 
--- a new uplink is taken: its session and counter are kept, then the device is answered
+-- a new uplink is taken: its session and counter are stored, then the device is answered
 abbrev pub uplink_step : ℕ → ℕ → Device → Fit → Uplink → ℕ → Hearing → DeviceStep
 uplink_step net_id slot d fit u copies best =
     let c = session_after fit in

@@ -1,5 +1,5 @@
--- Which session an uplink is of, and why it is refused, in the words of the sessions that it may be
--- of (TS001-1.0.4 §4.3.1.5, §4.4).
+-- The session of an uplink, and why it is refused, stated by the candidates: the sessions to which
+-- it may belong (TS001-1.0.4 §4.3.1.5, §4.4).
 use Rattle.std.specs.Prelude.{ℕ, Bool, if◌then◌else◌, List, [], ◌∷◌, ◌++◌, filter, Option}
 use Rattle.std.specs.Prelude.{Some, None, Result, Ok, Err}
 use Rattle.std.specs.List.{filter_map}
@@ -36,7 +36,7 @@ abbrev pub candidates : ℕ → ℕ → Grants → DataFrame → List Candidate
 candidates net_id slot g frame =
     pending_candidates net_id slot g.pending frame ++ current_candidates net_id slot g.current frame
 
--- what the frame is in a session by its counter; nothing where that is too far above the last one
+-- the frame in a session, by its counter; nothing if that is too far above the last one
 abbrev pub fit_in_pending : Session → Rebuilt → Option Fit
 fit_in_pending s (counter.New n) = Some (First s n)
 fit_in_pending s counter.Repeat = None
@@ -51,14 +51,14 @@ abbrev pub fit_in : DataFrame → Candidate → Option Fit
 fit_in frame (Pending s) = fit_in_pending s (rebuilt_counter None frame.f_cnt)
 fit_in frame (Current c) = fit_in_current c (rebuilt_counter (Some c.last_up) frame.f_cnt)
 
--- whether the frame's MIC is that of the session, under the counter that the frame has there
+-- whether the frame's MIC is the session's, under the counter that the frame has there
 abbrev pub has_mic : DataFrame → Fit → Bool
 has_mic frame (First s counter) = is_signed s counter frame
 has_mic frame (Next c counter) = is_signed c.session counter frame
 has_mic frame (Again c) = is_signed c.session c.last_up frame
 
--- Why it is refused, where it has the MIC of none: no session has the address; in each that has it
--- the counter is too far; else the MIC.
+-- Why a frame is refused if its MIC fits no session: no session has its address; or the counter is
+-- too far in each that has it; otherwise its MIC.
 abbrev pub refusal_among : List Candidate → List Fit → Refusal
 refusal_among [] fits = refusals.UnknownDevAddr
 refusal_among (candidate ∷ others) [] = refusals.CounterGap
@@ -68,7 +68,7 @@ abbrev pub first_or : List Fit → Refusal → Result Fit Refusal
 first_or [] refusal = Err refusal
 first_or (fit ∷ fits) refusal = Ok fit
 
--- the first session of which the frame has the MIC, or why there is none
+-- the first session whose MIC the frame has, or why there is none
 abbrev pub verdict_among : DataFrame → List Candidate → Result Fit Refusal
 verdict_among frame sessions =
     let fits = filter_map (fit_in frame) sessions in

@@ -1,4 +1,4 @@
--- Calls one after another, up to the first that is refused.
+-- Calls one after another, until one is refused.
 use Rattle.std.specs.Prelude.{Result, Ok, Err}
 use Rattle.lw_types.specs.declared.refusal.Refusal.{Refusal}
 

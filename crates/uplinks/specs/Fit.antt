@@ -1,4 +1,4 @@
--- Which session an uplink is of, and under which counter (TS001-1.0.4 §4.3.1.5, §4.4).
+-- The session of an uplink, and its counter there (TS001-1.0.4 §4.3.1.5, §4.4).
 use Rattle.std.specs.Prelude.{◌≡◌, ◌<◌, ℕ, ◌==◌, Bool, nat_eq, if◌then◌else◌, Option, Some, None}
 use Rattle.std.specs.Prelude.{Result, Ok, Err}
 use Rattle.std.specs.Cmp.Lexicographic.{pointwise}
@@ -24,7 +24,7 @@ use Rattle.uplinks.specs.declared.fit.Trial.TheVariants.{OtherDevAddr, BadCounte
 abbrev pub is_for : ℕ → ℕ → Session → DataFrame → Bool
 is_for net_id slot s frame = frame.dev_addr.0 == (dev_addr net_id slot s.join_nonce).0
 
--- whether the frame's MIC is that of the session under this counter (§4.4)
+-- whether the frame's MIC is the session's under this counter (§4.4)
 abbrev pub is_signed : Session → ℕ → DataFrame → Bool
 is_signed s counter frame =
     pointwise nat_eq frame.mic.0
@@ -33,7 +33,7 @@ is_signed s counter frame =
 abbrev pub if_signed : Session → ℕ → DataFrame → Fit → Trial
 if_signed s counter frame fit = if is_signed s counter frame then Fits fit else BadMic
 
--- ---- the pending session, which had no uplink yet
+-- ---- the pending session, which hasn't had an uplink yet
 
 abbrev pub pending_trial : Session → DataFrame → Rebuilt → Trial
 pending_trial s frame (counter.New n) = if_signed s n frame (First s n)
@@ -63,8 +63,8 @@ try_current net_id slot (Some c) frame =
 
 -- ---- the two
 
--- the first of two sessions into which the frame fits; where it fits into none, the one into which
--- it came further: past its address, and past its counter
+-- the first of two sessions into which the frame fits; if it fits into none, the one in which it
+-- passed more tests: first its address, then its counter
 abbrev pub later_trial : Trial → Trial → Trial
 later_trial (Fits fit) other = Fits fit
 later_trial OtherDevAddr other = other
@@ -77,15 +77,16 @@ later_trial BadMic BadCounter = BadMic
 later_trial BadMic BadMic = BadMic
 later_trial BadMic (Fits fit) = Fits fit
 
--- no session has the address; or a MIC doesn't fit; or the counter is too far in each that has the
--- address
+-- the refusal: no session has the address; or the MIC doesn't fit; or the counter is too far in
+-- each session that has the address
 abbrev pub verdict : Trial → Result Fit Refusal
 verdict OtherDevAddr = Err refusals.UnknownDevAddr
 verdict BadCounter = Err refusals.CounterGap
 verdict BadMic = Err refusals.BadMic
 verdict (Fits fit) = Ok fit
 
--- the session whose FCntUp the frame counts on: the pending one is tried before the current one
+-- the session in which the frame's FCntUp counts on: the pending one is tried before the current
+-- one
 abbrev pub fit_of : ℕ → ℕ → Grants → DataFrame → Result Fit Refusal
 fit_of net_id slot g frame =
     verdict (later_trial (try_pending net_id slot g.pending frame)
@@ -97,8 +98,8 @@ fitted_session (First s counter) = s
 fitted_session (Next c counter) = c.session
 fitted_session (Again c) = c.session
 
--- the session is the device's: the pending or the current one, in which a new counter is above the
--- last one
+-- the session is the device's pending or current one; in the current one, a new counter is above
+-- the last one
 abbrev pub IsOf : Grants → Fit → Type 0
 IsOf g (First s counter) = g.pending ≡ Some s
 IsOf g (Next c counter) = (g.current ≡ Some c) × (c.last_up < counter)

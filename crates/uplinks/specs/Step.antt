@@ -16,8 +16,8 @@ use Rattle.uplinks.specs.Accepted.{uplink_step}
 use Rattle.uplinks.specs.Chain.{◌>>=◌}
 use Rattle.uplinks.specs.Fit.{fit_of, fitted_session}
 
--- what an uplink does in the session of which it is: one that comes again is acknowledged where it
--- is confirmed, else refused
+-- what an uplink does in its session; one that comes again is acknowledged if it is confirmed,
+-- otherwise refused
 abbrev pub step_in_session : ℕ → ℕ → Device → Uplink → ℕ → Hearing → Fit → Result DeviceStep Refusal
 step_in_session net_id slot d u copies best (First s counter) =
     Ok (uplink_step net_id slot d (First s counter) u copies best)
@@ -26,22 +26,22 @@ step_in_session net_id slot d u copies best (Next c counter) =
 step_in_session net_id slot d u copies best (Again c) =
     if u.frame.confirmed then Ok (acknowledgement_step net_id slot d c best) else Err Repeat
 
--- an uplink counts in its session only where the device may send: the copy that was heard best is
--- on a channel of the session, wherever the others are
+-- an uplink counts in its session only if the copy that was heard best is on a channel of the
+-- session; the channels of the other copies don't matter
 abbrev pub if_on_channel : Hearing → Fit → Result Fit Refusal
 if_on_channel best fit =
     if may_use (fitted_session fit).channels best.reception.frequency
     then Ok fit else Err UnknownChannel
 
--- an uplink that was heard by `copies` gateways, and best in this copy; there is one, since a frame
--- that was heard has a copy at least
+-- an uplink that `copies` gateways heard, with this best copy. A best copy exists, since a heard
+-- frame has at least one copy
 abbrev pub step_of_best : ℕ → ℕ → Device → Uplink → ℕ → Option Hearing → Result DeviceStep Refusal
 step_of_best net_id slot d u copies None = Err UnknownDevAddr  -- not reached
 step_of_best net_id slot d u copies (Some best) =
     fit_of net_id slot d.activation u.frame >>= if_on_channel best
     >>= step_in_session net_id slot d u copies best
 
--- what an uplink does to the record of the device at a slot, with all the copies of it
+-- what an uplink with these copies does to the record of the device at a slot
 abbrev pub uplink_at : ℕ → ℕ → Device → List Hearing → Uplink → Result DeviceStep Refusal
 uplink_at net_id slot d hearings u =
     step_of_best net_id slot d u (length hearings) (best_of hearings)

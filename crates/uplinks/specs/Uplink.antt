@@ -14,12 +14,12 @@ abbrev pub is_on_port_0 : Option PortPayload → Bool
 is_on_port_0 None = false
 is_on_port_0 (Some sent) = sent.f_port == 0
 
--- whether MAC commands stand in FOpts and on FPort 0 at once, which is forbidden (§4.3.1.6)
+-- whether MAC commands are both in FOpts and on FPort 0, which is forbidden (§4.3.1.6)
 abbrev pub has_both : List ℕ → Option PortPayload → Bool
 has_both [] message = false
 has_both (byte ∷ opts) message = is_on_port_0 message
 
--- the uplink that a data frame is
+-- the uplink of a data frame
 abbrev pub uplink_with : DataFrame → Control → Result declared.Uplink Refusal
 uplink_with frame (Downlink adr ack f_pending) = Err NotServed
 uplink_with frame (Uplink adr asks acks) =

@@ -23,7 +23,7 @@ use phy_payload::DataFrameRef;
 use std::alloc::{AllocError, Global};
 
 impl NetworkSlot {
-    // A new uplink is taken: its session and counter are kept, and the device is answered.
+    // Takes a new uplink: stores its session and counter, and answers the device.
     pub(crate) fn take(
         &self,
         alloc: Global,
@@ -54,7 +54,7 @@ impl NetworkSlot {
 }
 
 impl Fit {
-    // The session in which the device is after the uplink.
+    // The session of the device after the uplink.
     fn session_after(&self) -> CurrentSession
         ensures { result ≡ session_after self.now }
     {
@@ -72,7 +72,8 @@ impl Fit {
         }
     }
 
-    // Whether the uplink acknowledges the last confirmed downlink, which was of the same session.
+    // Whether the uplink acknowledges the last confirmed downlink. That downlink was in the same
+    // session.
     fn acknowledges(&self, uplink: &Uplink<'_>) -> bool
         ensures { result ≡ is_acknowledgement self.now uplink.now }
     {
@@ -83,8 +84,8 @@ impl Fit {
         }
     }
 
-    // The uplink is counted where it is new. The device keeps its session and counter, and awaits
-    // no item any more.
+    // Counts the uplink if it is new. The device keeps its session and counter, and no longer
+    // awaits an item.
     fn enter(&self, device: &mut Device)
         requires { IsOf device.old.activation self.now }
         ensures { device.new ≡ with_uplink device.old self.now }
@@ -104,7 +105,7 @@ impl Fit {
     }
 }
 
-// The item that was awaited is acknowledged, or lost.
+// Reports the awaited item as acknowledged or as lost.
 fn tell_awaited(device: &Device, effects: &mut Effects, acked: bool) -> Result<(), AllocError>
     requires { length effects.old < Effects.MOST }
     ensures told { OnOk result (effects.new
@@ -120,7 +121,7 @@ fn tell_awaited(device: &Device, effects: &mut Effects, acked: bool) -> Result<(
 
 // ---- MAC commands
 
-// The MAC commands of the uplink: those of port 0 are encrypted, else they stand in FOpts.
+// The MAC commands of the uplink: encrypted on port 0, otherwise in FOpts.
 fn commands(
     alloc: Global,
     session: &CurrentSession,
@@ -164,7 +165,7 @@ fn decrypted(
     Ok(Payload::new(bytes).unwrap())
 }
 
-// The commands that the network doesn't answer itself are reported, if there are any.
+// Reports the commands that the network doesn't answer itself, if there are any.
 fn report_commands(
     alloc: Global,
     device: &Device,
@@ -212,7 +213,7 @@ fn demand_of(heard: &HeardUplink<'_>, commands: &[u8]) -> Demand
 
 // ---- the payload
 
-// The payload on an application's FPort is handed on.
+// Hands on the payload on an application's FPort.
 fn forward(
     alloc: Global,
     device: &Device,

@@ -1,4 +1,4 @@
-// Where an uplink arrives, and how.
+// The place where an uplink arrives, and how it was received.
 use crate::Uplink;
 use devices::{Copies, Hearing, Hearings};
 use lw_types::NetId;
@@ -10,7 +10,7 @@ pub struct NetworkSlot {
     pub slot: u16,
 }
 
-/// An uplink as it was received: `message` is all of its frame but the MIC.
+/// An uplink as it was received: `message` is all of its frame except the MIC.
 #[derive(Clone, Copy)]
 pub struct ReceivedUplink<'a> {
     pub uplink: &'a Uplink<'a>,
@@ -22,7 +22,7 @@ pub struct ReceivedUplink<'a> {
 #[derive(Clone, Copy)]
 pub(crate) struct HeardUplink<'a> {
     pub uplink: &'a Uplink<'a>,
-    /// How many gateways heard it.
+    /// The number of gateways that heard it.
     pub copies: Copies,
     /// The copy that was heard best.
     pub best: Hearing,

@@ -1,4 +1,4 @@
-// Which session an uplink is of, and under which counter (TS001-1.0.4 §4.3.1.5, §4.4).
+// The session of an uplink, and its counter there (TS001-1.0.4 §4.3.1.5, §4.4).
 ghost use Rattle.std.specs.Prelude.{◌≡◌, IfOk, None, Some};
 ghost use Rattle.counters.specs.Rebuilt.{rebuilt_counter};
 ghost use Rattle.uplinks.specs.Fit.{current_trial, fit_of, later_trial, if_signed, is_for};
@@ -13,7 +13,7 @@ use frame_crypt::data_mic;
 use lw_types::{Direction, Refusal};
 use phy_payload::DataFrameRef;
 
-/// The session of which an uplink is.
+/// The session to which an uplink belongs.
 #[derive(Clone, Copy)]
 pub enum Fit {
     /// The session that was pending, and the uplink's counter.
@@ -21,32 +21,32 @@ pub enum Fit {
         session: Session,
         counter: u32,
     },
-    /// The current session, and the uplink's counter, which is a later one.
+    /// The current session, and the uplink's counter, which is later than the last one.
     Next {
         session: CurrentSession,
         counter: u32,
     },
-    /// The current session: its last uplink comes again.
+    /// The current session, whose last uplink comes again.
     Again {
         session: CurrentSession,
     },
 }
 
-/// How far an uplink came into a session.
+/// How far a session accepts an uplink: each test is tried only if those before it passed.
 #[derive(Clone, Copy)]
 pub enum Trial {
-    /// It has another address.
+    /// The session has another address.
     OtherDevAddr,
-    /// Its counter is too far above the last one.
+    /// The counter is too far above the session's last one.
     BadCounter,
-    /// Its MIC isn't the session's.
+    /// The MIC isn't the session's.
     BadMic,
-    /// It is of the session.
+    /// The uplink belongs to the session.
     Fits(Fit),
 }
 
 impl Trial {
-    // The first that fits, else the one that came further.
+    // The first trial that fits; if none fits, the one that passed more tests.
     fn later_trial(self, other: Trial) -> Trial
         ensures { result ≡ later_trial self other }
     {
@@ -58,7 +58,7 @@ impl Trial {
         }
     }
 
-    // The session of which the uplink is, or its refusal.
+    // The session of the uplink, or its refusal.
     fn verdict(self) -> Result<Fit, Refusal>
         ensures { result ≡ verdict self }
     {
@@ -72,7 +72,8 @@ impl Trial {
 }
 
 impl NetworkSlot {
-    // The session of the device whose FCntUp the uplink counts on: the pending or the current one.
+    // The session of the device to which the uplink belongs, in which its FCntUp counts on: the
+    // pending or the current one.
     pub(crate) fn fit(
         &self,
         activation: &Activation,
@@ -90,7 +91,7 @@ impl NetworkSlot {
         first.later_trial(next).verdict()
     }
 
-    // How far the uplink comes into the pending session, which has had no counter yet.
+    // Tries the uplink in the pending session, which has had no counter yet.
     fn try_pending(
         &self,
         waiting: Option<Session>,
@@ -107,7 +108,7 @@ impl NetworkSlot {
         }
     }
 
-    // How far the uplink comes into the current session.
+    // Tries the uplink in the current session.
     fn try_current(
         &self,
         current: Option<CurrentSession>,
@@ -135,7 +136,7 @@ impl NetworkSlot {
     }
 }
 
-// How far an uplink comes into a pending session that has its address.
+// Tries an uplink in a pending session that has its address.
 fn try_first(session: Session, frame: &DataFrameRef<'_>, message: &[u8]) -> Trial
     requires { IsMessageOf frame.now message.now }
     ensures { result ≡ pending_trial session frame.now (rebuilt_counter None frame.now.f_cnt) }
@@ -150,8 +151,8 @@ fn try_first(session: Session, frame: &DataFrameRef<'_>, message: &[u8]) -> Tria
     }
 }
 
-// How far an uplink comes into a current session that has its address. One that comes again has the
-// last counter.
+// Tries an uplink in a current session that has its address. A repeated uplink has the last
+// counter.
 fn try_next(current: CurrentSession, frame: &DataFrameRef<'_>, message: &[u8]) -> Trial
     requires { IsMessageOf frame.now message.now }
     ensures { result ≡ current_trial current frame.now
@@ -173,7 +174,7 @@ fn try_next(current: CurrentSession, frame: &DataFrameRef<'_>, message: &[u8]) -
     }
 }
 
-// The fit, where the frame's MIC is that of the session under this counter.
+// The fit, if the frame's MIC is the session's under this counter.
 fn if_signed(
     session: &Session,
     counter: u32,

@@ -1,5 +1,5 @@
 //! Uplinks: what a data frame of a class A device does to its record, and what is sent and reported
-//! of it (TS001-1.0.4 §4.3, §5).
+//! because of it (TS001-1.0.4 §4.3, §5).
 #![tactic(auto)]
 
 mod accepted;

@@ -19,13 +19,17 @@ use lw_types::Refusal;
 use phy_payload::laws::read_mic_inputs_are_short;
 use std::alloc::Global;
 
-/// What an uplink does to the record of the device at a slot of a network: the record after it, and
-/// its effects. It is refused where no session of the device has its address (`UnknownDevAddr`),
-/// where in each that has its counter is too far above the last one (`CounterGap`), where its MIC
-/// isn't the session's (`BadMic`), where the copy that was heard best isn't on a channel of the
-/// session (`UnknownChannel`), and where it comes again unconfirmed (`Repeat`), each of them
-/// whether or not there is memory; for want of memory as `OutOfMemory`. The cost is bounded by the
-/// frame and the device's queues.
+/// Returns what an uplink does to the record of the device at a slot of a network: the record after
+/// it, and its effects. The refusals, in this order:
+/// - `UnknownDevAddr` if no session of the device has its address;
+/// - `CounterGap` if its counter is too far above the last one in each session that has its
+///   address;
+/// - `BadMic` if its MIC isn't the session's;
+/// - `UnknownChannel` if the copy that was heard best isn't on a channel of the session;
+/// - `Repeat` if it comes again unconfirmed.
+///
+/// Each of these is returned whether or not memory is available. If memory runs out, the refusal is
+/// `OutOfMemory`. The cost is bounded by the frame and the device's queues.
 pub fn receive_uplink(
     alloc: Global,
     place: &NetworkSlot,
@@ -51,7 +55,7 @@ pub fn receive_uplink(
 }
 
 impl Fit {
-    // Whether the device may send where it was heard best: on a channel of the session.
+    // Whether the best copy is on a channel of the session, on which the device may send.
     fn is_on_channel(&self, best: &Hearing) -> bool
         ensures { result ≡ may_use (fitted_session self.now).channels best.now.reception.frequency }
     {
@@ -64,7 +68,7 @@ impl Fit {
 }
 
 impl NetworkSlot {
-    // What the uplink does in the session of which it is.
+    // What the uplink does in its session.
     fn enter(
         &self,
         alloc: Global,
@@ -85,7 +89,7 @@ impl NetworkSlot {
         }
     }
 
-    // A new uplink is taken.
+    // Takes a new uplink.
     fn take_new(
         &self,
         alloc: Global,
@@ -106,7 +110,7 @@ impl NetworkSlot {
         Ok((after, effects))
     }
 
-    // The last uplink of the current session, confirmed, comes again.
+    // Acknowledges the last uplink of the current session, which comes again and is confirmed.
     fn acknowledge(
         &self,
         alloc: Global,

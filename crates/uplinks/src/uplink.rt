@@ -6,20 +6,20 @@ ghost use Rattle.uplinks.specs.Uplink.{has_both, is_on_port_0, uplink_of};
 use lw_types::Refusal;
 use phy_payload::{Control, DataFrameRef, PortPayloadRef};
 
-/// A data frame from a device, over the bytes of which it was read. Its MAC commands stand in FOpts
-/// or on port 0, and not in both.
+/// A data frame from a device, which refers to the bytes it was read from. Its MAC commands are in
+/// FOpts or on port 0, but not in both.
 #[derive(Drop)]
 pub struct Uplink<'a> {
     pub frame: DataFrameRef<'a>,
-    /// The device wants to know whether it is still heard (TS001-1.0.4 §4.3.1.1).
+    /// The device asks whether it is still heard (TS001-1.0.4 §4.3.1.1).
     pub adr_ack_req: bool,
     /// The last confirmed downlink was received (TS001-1.0.4 §4.3.1.2).
     pub ack: bool,
 }
 
 impl<'a> Uplink<'a> {
-    /// The uplink that a data frame is. A downlink is refused as `NotServed`, and then FOpts
-    /// together with port 0 as `MacBoth` (TS001-1.0.4 §4.3.1.6).
+    /// The uplink of a data frame. A downlink is refused as `NotServed`; then FOpts together with
+    /// port 0 as `MacBoth` (TS001-1.0.4 §4.3.1.6).
     ///
     /// Takes no memory.
     pub fn new(frame: DataFrameRef<'a>) -> Result<Self, Refusal>
@@ -41,7 +41,7 @@ impl<'a> Uplink<'a> {
     }
 }
 
-// Whether MAC commands stand in FOpts and on FPort 0 at once.
+// Whether MAC commands are both in FOpts and on FPort 0.
 fn has_both(frame: &DataFrameRef<'_>) -> bool
     ensures { result ≡ has_both frame.now.contents.f_opts frame.now.contents.message }
 {

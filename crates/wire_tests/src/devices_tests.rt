@@ -31,8 +31,8 @@ fn ranges_have_their_ends(rt: HostRuntime) {
     assert!(rt; NextDown::new((1 << 32) + 1).is_none());
 }
 
-// Whether a device may have the bytes of a text, and so many of 06 behind them, for a MAC queue,
-// which is made of a vector as of a slice.
+// Whether a device may have the bytes of a text, followed by this number of 06, in its MAC queue;
+// the queue is made from a vector and from a slice alike.
 fn may_wait(alloc: Global, hex: &str, count: usize) -> Option<bool> {
     let bytes = bytes(alloc, hex, 0x06, count)?;
     let Ok(vector) = Vec::from_slice(alloc, &bytes) else {
@@ -76,7 +76,7 @@ fn a_mac_queue_is_whole_commands_that_may_be_queued(rt: HostRuntime) {
     }
 }
 
-// Whether so many bytes of a queue fit the room, and these are left where they leave it.
+// Whether this number of bytes of a queue fit the room, and these remain after they leave.
 fn leaves(alloc: Global, hex: &str, room: u8, fits: usize, rest: &str) -> bool {
     let Some(mut queue) = mac_queue(alloc, hex) else {
         return false;
@@ -109,7 +109,7 @@ fn whole_commands_leave_the_queue(rt: HostRuntime) {
     }
 }
 
-// Whether so many items wait in the order of their tags.
+// Whether this number of items wait in the order of their tags.
 fn wait_in_order(items: &[Item], count: u32) -> bool {
     let mut tag: u32 = 0;
     for item in items {
@@ -121,14 +121,14 @@ fn wait_in_order(items: &[Item], count: u32) -> bool {
     tag == count
 }
 
-// The tag of the item that leaves first, which is the one that was seen there.
+// The tag of the item that leaves first, which is the one that was seen before.
 fn leaving(queue: &mut ItemQueue) -> Option<u32> {
     let seen = queue.first()?.tag;
     let left = queue.pop_first()?.tag;
     if left == seen { Some(left.0) } else { None }
 }
 
-// Whether so many items, and no more, leave in the order of their tags.
+// Whether this number of items, and no more, leave in the order of their tags.
 fn leave_in_order(mut queue: ItemQueue, count: u32) -> bool {
     let mut are_right = wait_in_order(queue.as_slice(), count);
     for tag in 0..count {
@@ -137,7 +137,7 @@ fn leave_in_order(mut queue: ItemQueue, count: u32) -> bool {
     are_right && queue.is_empty() && queue.pop_first().is_none()
 }
 
-// Whether a copy of so many items waits and leaves in order; `None` where they are too many.
+// Whether a copy of this number of items waits and leaves in order; `None` if they are too many.
 fn wait_and_leave(alloc: Global, count: u32, len: usize) -> Option<Option<bool>> {
     let copies: Result<_, _> = items(alloc, count, len)?.clone();
     match ItemQueue::new(copies.ok()?) {
@@ -146,7 +146,7 @@ fn wait_and_leave(alloc: Global, count: u32, len: usize) -> Option<Option<bool>>
     }
 }
 
-// Whether sixteen items that come one after another leave in order.
+// Whether sixteen items that are pushed one after another leave in order.
 fn pushed_wait(alloc: Global) -> Option<bool> {
     let mut queue = ItemQueue::empty(alloc);
     for tag in 0..16 {
@@ -174,8 +174,8 @@ fn sixteen_items_wait_and_leave_in_order(rt: HostRuntime) {
     assert!(rt; pushed_wait(rt.alloc()) == Some(true));
 }
 
-// What was granted last, and sessions of these JoinNonces, in use and not in use yet: the
-// activation of them, if they are in order.
+// The activation with this last grant and with sessions of these JoinNonces, current and pending,
+// if they are in order.
 fn activation(
     granted: u32,
     in_use: Option<u32>,
@@ -192,12 +192,12 @@ fn activation(
     Some(Activation::new(JoinNonce::new(granted), in_use, waiting))
 }
 
-// Whether they are in order; none where a session can't be made.
+// Whether they are in order; `None` if a session can't be made.
 fn are_in_order(granted: u32, in_use: Option<u32>, waiting: Option<u32>) -> Option<bool> {
     Some(activation(granted, in_use, waiting)?.is_some())
 }
 
-// Nothing was granted where the first number is 0.
+// If the first number is 0, nothing was granted.
 const ORDERS: &[(u32, Option<u32>, Option<u32>, bool)] = &[
     (0, None, None, true),
     (2, Some(1), Some(2), true),
@@ -229,13 +229,13 @@ fn has_parts() -> Option<bool> {
     Some(is_granted && is_in_use && activation.pending() == Some(session(2, Channels::Three)?))
 }
 
-// The counters of a session in use.
+// The counters of the current session.
 fn counters(activation: &Activation) -> Option<(u32, u64)> {
     let current = activation.current()?;
     Some((current.last_up, current.next_down.get()))
 }
 
-// The activation after an uplink of this counter and an answer to it.
+// The activation after an uplink with this counter and an answer to it.
 fn answered(mut activation: Activation, up: u32) -> Option<Activation> {
     activation.advance(activation.current()?, up);
     let current = activation.current()?;
@@ -268,7 +268,7 @@ const ADDRESSES: &[(u8, u16, u32, u32)] = &[
     (63, 4095, 16_777_215, 0x7FFF_FFFF),
 ];
 
-// Whether a session of a network has this address, which leads to its slot.
+// Whether a session of a network has this address, and the address leads to its slot.
 fn has_address(network: u8, slot: u16, join_nonce: u32, address: u32) -> bool {
     match NetId::new(u32::from(network)) {
         Some(network) => {
@@ -290,8 +290,8 @@ fn addresses_have_network_slot_and_join(rt: HostRuntime) {
     assert!(rt; slot_at(DevAddr(0x49BE_7DF1)) == 3571);
 }
 
-// Whether a new device has its name and empty queues, is as its copy, and isn't as one with another
-// tag.
+// Whether a new device has its name and empty queues, equals its copy, and differs from one with
+// another tag.
 fn is_copied_whole(alloc: Global) -> Option<bool> {
     let device = new_device(alloc, DEVICE)?;
     let are_empty = device.items.as_slice().is_empty() && device.mac_queue.as_slice().is_empty();
@@ -318,7 +318,7 @@ fn provisioned(slot: u16) -> Option<Effect> {
     })
 }
 
-// Whether reports of the slots from 4 to 7 are pushed, and the first one stays the first.
+// Whether reports of the slots from 4 to 7 can be pushed, and the first one stays the first.
 fn effects_are_in_order(alloc: Global) -> Option<bool> {
     let mut effects = Effects::empty(alloc);
     for slot in 4..8 {
@@ -371,7 +371,7 @@ fn hearing(gateway: u64, frequency: u32, data_rate: u8, snr: i16, rssi: i16) -> 
     }
 }
 
-// So many copies, each of a gateway of its own.
+// This number of copies, each from a gateway of its own.
 fn hearings(alloc: Global, count: u64) -> Option<Vec<Hearing>> {
     let mut hearings = Vec::new(alloc);
     for gateway in 0..count {
@@ -383,7 +383,7 @@ fn hearings(alloc: Global, count: u64) -> Option<Vec<Hearing>> {
     Some(hearings)
 }
 
-// Whether so many copies of a frame stay in their order; `None` where so many may not be.
+// Whether this number of copies of a frame stay in order; `None` if they are too many.
 fn keep_their_order(alloc: Global, count: u64) -> Option<Option<bool>> {
     let wanted = hearings(alloc, count)?;
     match Hearings::new(hearings(alloc, count)?) {
@@ -402,7 +402,7 @@ fn from_1_to_32_gateways_hear_a_frame(rt: HostRuntime) {
     }
 }
 
-// Whether a frame that gateways 0 and 1 heard may also be heard so.
+// Whether a frame that gateways 0 and 1 heard may also have this copy.
 fn may_be_heard(alloc: Global, last: Hearing) -> Option<bool> {
     let mut hearings = hearings(alloc, 2)?;
     if hearings.push(last).is_err() {
@@ -431,7 +431,7 @@ fn copies_are_of_different_gateways_on_channels(rt: HostRuntime) {
     }
 }
 
-// The best of the copies that these gateways have, of these SNR and RSSI.
+// The best of the copies from these gateways, with this SNR and RSSI.
 fn best(alloc: Global, copies: &[(u64, i16, i16)]) -> Option<u64> {
     let mut hearings = Vec::new(alloc);
     for (gateway, snr, rssi) in copies {

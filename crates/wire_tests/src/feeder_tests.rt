@@ -3,7 +3,7 @@ use link_messages::{Fed, Feeder, Message, Peer};
 use lw_types::{FrameCopy, Reception, Refusal};
 use std::alloc::Global;
 
-// The greeting of a gateway, its copy of a frame of 17 bytes, and the one behind the other.
+// The greeting of a gateway, its copy of a frame of 17 bytes, and both one after the other.
 const GREETING: &str = "00090000000000000000B1";
 
 const COPY: &str =
@@ -14,7 +14,8 @@ const GREETING_AND_COPY: &str = concat!(
     "954378762B11FF0D",
 );
 
-// Feeds a piece, and whether there was memory for it. A piece that there was none for is fed again.
+// Feeds a piece, and returns whether there was memory for it. A piece for which there was none is
+// fed again.
 fn feed(feeder: &mut Feeder, piece: &[u8], said: &mut Fed) -> bool {
     let answer = match feeder.feed(piece) {
         Ok(fed) => Ok(fed),
@@ -27,7 +28,7 @@ fn feed(feeder: &mut Feeder, piece: &[u8], said: &mut Fed) -> bool {
     said.messages.append(&mut fed.messages).is_ok()
 }
 
-// Feeds a stream in one piece, or byte after byte.
+// Feeds a stream in one piece, or byte by byte.
 fn feed_all(feeder: &mut Feeder, stream: &[u8], is_whole: bool, said: &mut Fed) -> bool {
     if is_whole {
         return feed(feeder, stream, said);
@@ -40,7 +41,7 @@ fn feed_all(feeder: &mut Feeder, stream: &[u8], is_whole: bool, said: &mut Fed) 
     true
 }
 
-// What a stream says, and what its end is refused.
+// What a stream says, and how its end is refused.
 fn heard(alloc: Global, stream: &[u8], is_whole: bool) -> Option<(Fed, Option<Refusal>)> {
     let mut feeder = Feeder::new(alloc);
     let mut said = Fed {
@@ -54,8 +55,8 @@ fn heard(alloc: Global, stream: &[u8], is_whole: bool) -> Option<(Fed, Option<Re
     }
 }
 
-// Whether a text with so many of 41 behind it says so many messages, and ends so, however it comes.
-// What isn't cut short has its fault before it ends.
+// Whether a text followed by this number of 41 says this number of messages and ends so, in whole
+// and byte by byte. A stream that isn't cut short has its fault before it ends.
 fn says(alloc: Global, stream: &Stream) -> bool {
     let (hex, filled, count, end) = *stream;
     let fault = if end == CUT_SHORT { None } else { end };
@@ -71,8 +72,7 @@ fn says(alloc: Global, stream: &Stream) -> bool {
     }
 }
 
-// Texts, how many of 41 stand behind them, how many messages they say, and what their end is
-// refused.
+// Texts, how many of 41 follow them, how many messages they say, and how their end is refused.
 type Stream = (&'static str, usize, usize, Option<Refusal>);
 
 const CUT_SHORT: Option<Refusal> = Some(Refusal::CutShort);
@@ -122,9 +122,9 @@ const STREAMS: &[Stream] = &[
     ("02BD", 0, 0, TOO_LONG),
     ("FFFF", 9, 0, TOO_LONG),
     ("00090000000000000000B102BD", 701, 1, TOO_LONG),
-    // what follows a fault says nothing
+    // what follows a fault is ignored
     ("02BD00020203", 0, 0, TOO_LONG),
-    // no content, no kind of these, and nothing behind a fault
+    // no content, an unknown kind, and nothing after a fault
     ("0000", 0, 0, NO_MESSAGE),
     ("000104", 0, 0, NO_MESSAGE),
     ("00021141", 0, 0, NO_MESSAGE),
@@ -151,7 +151,7 @@ const STREAMS: &[Stream] = &[
     // bytes that aren't ASCII, and newlines
     ("0002020300020380", 0, 1, NO_MESSAGE),
     ("00020203000403410A41", 0, 1, NO_MESSAGE),
-    // messages that their links don't have: before a greeting
+    // messages that may not be said on their links: before a greeting
     (COPY, 0, 0, NO_MESSAGE),
     ("00020341", 0, 0, NO_MESSAGE),
     // a second greeting
@@ -163,7 +163,7 @@ const STREAMS: &[Stream] = &[
     ),
     ("00090000000000000000B100020203", 0, 1, NO_MESSAGE),
     ("0002020300020203", 0, 1, NO_MESSAGE),
-    // another gateway's copy, a line of a gateway, and a copy of an application
+    // another gateway's copy, a line from a gateway, and a copy from an application
     (
         "00090000000000000000B100160100000000000000B233BE27A005FFECFFA10000C350",
         0,

@@ -1,4 +1,4 @@
-// Values that several tests are about.
+// Values that several tests use.
 use devices::{
     Application, Channels, CurrentSession, Device, Downlink, Item, NextDown, Payload, Port,
     Provisioning, ReceiveWindows, Rx1Offset, RxDelay, Session, SessionName, Tag,
@@ -58,7 +58,7 @@ pub fn current(number: u32, last_up: u32) -> Option<CurrentSession> {
     })
 }
 
-// An item of so many bytes.
+// An item of this number of bytes.
 pub fn item(alloc: Global, tag: u32, len: usize) -> Option<Item> {
     let port = Port::new(223)?;
     let Ok(bytes) = vec![in alloc; 0xA5; len] else {
@@ -89,7 +89,7 @@ pub fn empty_downlink(alloc: Global) -> Option<Downlink> {
     })
 }
 
-// So many items of this length, tagged from 0 on.
+// This number of items of this length, with tags from 0 on.
 pub fn items(alloc: Global, count: u32, len: usize) -> Option<Vec<Item>> {
     let mut items = Vec::new(alloc);
     for tag in 0..count {
@@ -108,7 +108,7 @@ pub fn has_hex(alloc: Global, bytes: &[u8], text: &str) -> bool {
     }
 }
 
-// The bytes of a text, and so many of this one behind them.
+// The bytes of a text, followed by this number of one byte.
 pub fn bytes(alloc: Global, hex: &str, filling: u8, count: usize) -> Option<Vec<u8>> {
     let Ok(mut bytes) = read_hex(alloc, hex) else {
         return None;

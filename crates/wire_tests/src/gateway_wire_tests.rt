@@ -15,7 +15,7 @@ use lw_types::{Eui, JoinNonce, NetId, PhyPayload, Reception, Refusal, Words, wri
 use sessions::{Slots, Table};
 use std::alloc::{AllocError, Global};
 
-// A payload of the bytes of a text, and so many of A5 behind them.
+// A payload of the bytes of a text, followed by this number of A5.
 fn payload(alloc: Global, (hex, count): (&str, usize)) -> Option<Payload> {
     Payload::new(bytes(alloc, hex, 0xA5, count)?).ok()
 }
@@ -46,7 +46,7 @@ fn downlink(
     })
 }
 
-// A payload of the last session that there may be, at its last counter.
+// A payload of the last session that is possible, at its last counter.
 fn forward(alloc: Global, bytes: (&str, usize)) -> Option<Effect> {
     let (application, session) = (Application::new(3)?, name(16_777_215)?);
     let (port, copies) = (Port::new(223)?, Copies::new(32)?);
@@ -81,7 +81,7 @@ enum Leaving {
     Mac(&'static str),
 }
 
-// An effect whose bytes end with so many of A5.
+// An effect whose bytes end with this number of A5.
 fn effect(alloc: Global, leaving: &Leaving, count: usize) -> Option<Effect> {
     match leaving {
         Leaving::Down(data_rate, windows, hex) => {
@@ -119,8 +119,8 @@ fn report(alloc: Global, leaving: &Leaving, count: usize) -> Option<Report> {
     }
 }
 
-// What leaves, and as what: a text, so many of A5 in hex, with which the bytes of what leaves end,
-// and a text. A gateway is sent these bytes, and the application of number 3 is told this line. The
+// What leaves, and in which form: a text, this number of A5 in hex, with which the bytes of what
+// leaves end, and a text. A gateway is sent these bytes, and application 3 is sent this line. The
 // longest payload has 242 bytes.
 const EFFECTS: &[(Leaving, &str, usize, &str)] = &[
     // The shortest downlink, a long one, and the longest.
@@ -198,7 +198,7 @@ const EFFECTS: &[(Leaving, &str, usize, &str)] = &[
     (Leaving::Mac(""), "mac 1112131415161718 1 ", 242, ""),
 ];
 
-// A text, so many of A5 in hex, and a text.
+// A text, this number of A5 in hex, and a text.
 fn long_text(alloc: Global, front: &str, count: usize, back: &str) -> Result<String, AllocError> {
     let hex = "A5".repeat(alloc, count)?;
     format!(in alloc; "{front}{hex}{back}")
@@ -217,7 +217,7 @@ fn shown(alloc: Global, emission: &Emission) -> Option<String> {
     }
 }
 
-// Whether the effect leaves as these bytes for its gateway, and as nothing for an application, or
+// Whether the effect leaves as these bytes for its gateway and as nothing for an application, or
 // the other way round.
 fn is_alone(alloc: Global, effect: &Effect, wanted: &str) -> bool {
     match (gateway_bytes(alloc, effect), app_line(alloc, effect)) {
@@ -236,12 +236,12 @@ fn left_as(alloc: Global, effect: &Effect) -> Option<String> {
     }
 }
 
-// What leaves, as a text, where it is for the gateway or application 3, and for it alone.
+// What leaves, as a text, if it is for the gateway alone or for application 3 alone.
 fn shown_of(alloc: Global, leaving: &Leaving, count: usize) -> Option<String> {
     left_as(alloc, &effect(alloc, leaving, count)?)
 }
 
-// What is wrong in the table, a line a row.
+// The rows of the table that are wrong, one line each.
 fn wrong_effects(alloc: Global) -> Result<String, Refusal> {
     let mut wrong = String::new(alloc);
     for (number, (leaving, front, count, back)) in EFFECTS.iter().enumerate() {
@@ -280,7 +280,7 @@ fn emission(alloc: Global, leaving: &Leaving, count: usize) -> Option<Emission> 
     Emission::of(alloc, &effect(alloc, leaving, count)?).ok()
 }
 
-// Whether an emission is as its copy, and not as that of another slot.
+// Whether an emission equals its copy, and differs from that of another slot.
 fn are_told_apart(emission: &Emission, other: &Emission) -> bool {
     let copy: Result<_, _> = emission.clone();
     match copy {
@@ -319,7 +319,7 @@ const FIELDS: &str = "1112131415161718 0102030405060708 2B7E151628AED2A6ABF71588
 const PROVISION: &str =
     "provision 1112131415161718 0102030405060708 2B7E151628AED2A6ABF7158809CF4F3C 5 15";
 
-// Whether the request is read of its line, and of its words, and is copied.
+// Whether the request is read from its line and from its words, and is copied.
 fn is_read(alloc: Global, request: &Request) -> bool {
     let of_line = read_line(alloc, PROVISION);
     let of_words = read_request(alloc, "provision", Words::of(FIELDS));
@@ -355,7 +355,7 @@ fn a_provisioning_is_read_and_is_a_command(rt: HostRuntime) {
     assert!(rt; is_read_and_becomes(rt.alloc()) == Some(true));
 }
 
-// What a line asks for: an item of this tag, port, kind and payload, or these MAC commands.
+// The command of a line: an item with this tag, port, kind and payload, or these MAC commands.
 enum Asks {
     Item(u32, u8, bool, &'static str),
     Mac(&'static str),
@@ -365,7 +365,7 @@ fn asked(alloc: Global, hex: &str, count: usize) -> Option<AskedBytes> {
     AskedBytes::new(bytes(alloc, hex, 0xA5, count)?).ok()
 }
 
-// A command whose bytes end with so many of A5.
+// A command whose bytes end with this number of A5.
 fn command(alloc: Global, asks: &Asks, count: usize) -> Option<Command> {
     let application = Application::new(3)?;
     match asks {
@@ -393,7 +393,7 @@ fn asks_for(alloc: Global, line: &str, command: &Command) -> Option<bool> {
     }
 }
 
-// Whether the line, with so many of A5 in hex behind it, does.
+// Whether the line does, followed by this number of A5 in hex.
 fn is_asked(alloc: Global, front: &str, count: usize, asks: &Asks) -> Option<bool> {
     match (
         command(alloc, asks, count),
@@ -404,8 +404,8 @@ fn is_asked(alloc: Global, front: &str, count: usize, asks: &Asks) -> Option<boo
     }
 }
 
-// Lines, each with so many of A5 in hex behind it, and what they ask for, with so many behind its
-// bytes; the fourth item is too long for any data rate.
+// Lines, each followed by a number of A5 in hex, and the commands that they ask for, whose bytes
+// end with as many. The fourth item is too long for any data rate.
 const REQUESTS: &[(&str, usize, Asks)] = &[
     (
         "queue 1112131415161718 9 7 u AA",
@@ -480,7 +480,7 @@ const NO_REQUESTS: &[&str] = &[
     "macqueue 1112131415161718 06",
 ];
 
-// The lines that are read though they are none, each behind a newline.
+// The lines that are read although they are no request, each after a newline.
 fn wrong_requests(alloc: Global) -> Result<String, Refusal> {
     let mut wrong = String::new(alloc);
     for line in NO_REQUESTS {
@@ -511,7 +511,7 @@ fn words_are_values(rt: HostRuntime) {
     assert!(rt; nothing.is_none());
 }
 
-// A device with a session in use and one item, whose count of uplinks is at its end.
+// A device with a current session and one item, whose count of uplinks is at its highest value.
 fn busy(alloc: Global) -> Option<Device> {
     let activation = Activation::new(JoinNonce::new(5), Some(current(3, 70)?), None)?;
     let Ok(items) = ItemQueue::new(items(alloc, 1, 1)?) else {

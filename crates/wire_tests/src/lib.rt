@@ -1,5 +1,5 @@
-//! Tests of the public calls of devices and of links, a file a crate. They stand above those
-//! crates, so that each of these is proved once.
+//! Tests of the public calls of devices and of links, one file for each crate. They are in a crate
+//! above those crates, so that each of those is proved once.
 #![tactic(auto)]
 
 #[cfg(test)]

@@ -52,7 +52,7 @@ some_calls s (publishings.Written phase) = omega arith
 some_calls s (publishings.Synced phase) = omega arith
 some_calls s (publishings.Opened phase) = omega arith
 
--- no more than two batches are
+-- at most two batches are
 few_in : (u : UnderWay Room) → length (flights_in u) ≤ 2
 few_in (ways.Begun phase room) = omega arith
 few_in (ways.Written phase room) = omega arith
@@ -62,7 +62,7 @@ few_in (ways.Following opened room following behind) = omega arith
 few_in (ways.Paired phase room behind) = omega arith
 few_in (ways.Checkpoint phase) = omega arith
 
--- and one at least, where no checkpoint is
+-- and at least one, if no checkpoint is
 some_in : (s : StoreState) (u : UnderWay Room) → checkpoint_calls s u ≡ 0 → 1 ≤ length (flights_in u)
 some_in s (ways.Begun phase room) none = omega arith
 some_in s (ways.Written phase room) none = omega arith
@@ -91,7 +91,7 @@ no_calls s (ways.Following opened room following behind) some = refl
 no_calls s (ways.Paired phase room behind) some = refl
 no_calls s (ways.Checkpoint phase) some = absurd (omega (arith, some))
 
--- ---- what a call is answered
+-- ---- the answer to a call
 
 calls_for : (n : ℕ) (answer : Answer) → 1 ≤ n → IsCalled answer → CallsFor (with_calls_left n) answer
 calls_for zero answer some is = absurd (omega (arith, some))
@@ -132,12 +132,12 @@ has_failed s (Some durable) (ways.Following opened room following behind) alone 
 has_failed s (Some durable) (ways.Paired phase room behind) alone = absurd (omega (arith, alone))
 has_failed s (Some durable) (ways.Checkpoint phase) alone = absurd (omega (arith, alone))
 
--- one call less of a checkpoint
+-- one call of a checkpoint fewer
 call_less : (n : ℕ) → checkpoint_after_call (with_calls_left n) ≡ with_calls_left (n - 1)
 call_less zero = refl
 call_less (suc n) = refl
 
--- ---- a life of which something is under way
+-- ---- a life in which something is under way
 module _ (laws : RunLaws) (origin : Origin) (c : Course) (s s' : StoreState) (core : DecisionsState) (ahead : Option Done) (u : UnderWay Room)
     (f : IsLife origin c s core (record { ahead = ahead; last = commits.UnderWay u })) where
   flights_are : c.flights ≡ flights_of (flights_ahead ahead) ++ flights_of (flights_in u)
@@ -318,7 +318,7 @@ room_fewer [] (flight ∷ flights) there fit size room = absurd (omega (arith, s
 room_fewer (other ∷ others) (flight ∷ flights) there fit size room = omega (arith, size, room)
 
 module _ (ahead : Option Done) (u : UnderWay Room) (s s' : StoreState) (behind : IsBehind ahead (commits.UnderWay u)) where
-  -- a batch that became durable in front of another one
+  -- a batch that became durable before another one
   two : (durable : List Decision) (more : UnderWay Room) → flight Stage.Durable durable ∷ flights_in more ≡ all_succeeded (flights_in u)
       → checkpoint_calls s' more ≡ checkpoint_calls s u - 1 → length (flights_in u) ≡ 2
   two durable more flights left =
@@ -380,7 +380,7 @@ module _ (ahead : Option Done) (u : UnderWay Room) (s s' : StoreState) (behind :
       subst (λ k. (MayGoOn s' k.last × IsBehind k.ahead k.last) × (length (flights_begun k) ≤ length (flights_ahead ahead ++ flights_in u))) (sym goes)
       ((tt, none_behind ahead behind (sym size)), omega (arith, a, b))
 
-  -- nor is there more where the call failed
+  -- nor is there more if the call failed
   pub fewer_then : length (flights_begun (record { ahead = ahead; last = commits.Failed })) ≤ length (flights_ahead ahead ++ flights_in u)
   fewer_then =
       let a = length-append (flights_ahead ahead) [] in

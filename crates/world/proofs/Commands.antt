@@ -87,7 +87,7 @@ pub fit_failed : (t : TableState) (flights : List (Flight Decision)) → FitFlig
 fit_failed t [] fit = fit
 fit_failed t (flight ∷ flights) fit = (fit.0, fit_failed (with_decisions t flight.batch) flights fit.1)
 
--- ---- behind a batch that is ahead
+-- ---- after a batch that is ahead
 
 still_durable : (stage : Stage) → next_stage_before stage Durable ≡ Durable
 still_durable Begun = refl

@@ -30,7 +30,7 @@ pub decided_is : (c : Course) → taken_commands c ++ c.untaken ≡ decided_comm
 decided_is c =
     append_assoc c.settled (in_flight c.flights ++ c.given_up) c.untaken ∙ ap (λ l. c.settled ++ l) (append_assoc (in_flight c.flights) c.given_up c.untaken)
 
--- the course after a command that was to get this, and was answered so
+-- the course after a command that gets this, and has this answer
 abbrev pub answered : Course → Command → Result TableStep Refusal → Result (Unit {0}) Refusal → Course
 answered c command outcome (Err OutOfMemory) = c
 answered c command outcome result = after_command c command outcome
@@ -101,7 +101,7 @@ module _ (laws : RunLaws) (origin : Origin) (c : Course) (s : StoreState) (core 
   Became frugal command new outcome result =
       Verdict frugal outcome (λ _ _. Unit {0}) result × IsLife origin (answered c command outcome result) s new commit
 
-  -- memory was out
+  -- memory ran out
   became_out : (frugal : Bool) (command : Command) (new : DecisionsState) (st : TableStep) (e : Refusal) → e ≡ OutOfMemory → new ≡ core
       → Verdict frugal (Ok st) (λ (_ : TableStep) (_ : Unit {0}). Unit {0}) (Err OutOfMemory) → Became frugal command new (Ok st) (Err e)
   became_out frugal command new st e is kept verdict =

@@ -31,7 +31,7 @@ next_left : (origin : Origin) (c : Course) (items : List Released) (n : ℕ) →
 next_left origin c items n left emitted =
     ap (λ l. slice_get l c.emitted) left ∙ (ap (slice_get (effects_of_all items)) emitted ∙ get_map effect_of items n)
 
--- what stands where a look found this
+-- what holds if a look found this
 pub found_at : (xs items : List Released) (n : ℕ) (released : Released) → xs ≡ items → n < length xs → released ≡ get_or xs n released
     → slice_get items n ≡ Some released
 found_at xs items n released same within is =
@@ -46,7 +46,7 @@ emits origin c items n released answer left emitted there right =
     subst (λ o. MatchOption o (answer ≡ answers.Idle) (λ effect. (answer ≡ answers.Emitted (emission effect)) ⊎ (answer ≡ answers.Refused OutOfMemory)))
     (sym next) right
 
--- where the world is has nothing to do with how much was emitted
+-- how much was emitted doesn't matter to where the world is
 pub same_place : {D : Type 0} {g : _} (state : D → State) (origin : Origin) (c : Course) (n : ℕ) (place : Place D g) → FollowsPlace state origin c place
     → FollowsPlace state origin (record c { emitted = n }) place
 same_place state origin c n (Open life) (is, (f, listens)) = (is, (same-life f, record { clock = listens.clock; windows = listens.windows; said = listens.said }))

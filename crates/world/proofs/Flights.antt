@@ -40,7 +40,7 @@ stored_behind a b [] = refl
 stored_behind a b (flight ∷ flights) =
     with_behind flight.stage a b _ _ (ap (λ l. durable_in l flights) (append_assoc a b flight.batch) ∙ stored_behind a (b ++ flight.batch) flights)
 
--- what is stored, behind what is settled
+-- what is stored, after what is settled
 pub stored_from : {X : Type 0} (settled : List X) (flights : List (Flight X)) → durable_in settled flights ≡ settled ++ durable_in [] flights
 stored_from settled flights = ap (λ l. durable_in l flights) (sym (append-nil settled)) ∙ stored_behind settled [] flights
 
@@ -62,11 +62,11 @@ leaves_behind a b (flight ∷ flights) kept h =
     ])
     (λ is. ap (λ l. a ++ l) is) h
 
--- what may be left, behind what is settled
+-- what may be left, after what is settled
 pub leaves_from : {X : Type 0} (settled : List X) (flights : List (Flight X)) (kept : List X) → MayLeave [] flights kept → MayLeave settled flights (settled ++ kept)
 leaves_from settled flights kept h = subst (λ l. MayLeave l flights (settled ++ kept)) (append-nil settled) (leaves_behind settled [] flights kept h)
 
--- what is left are the settled commands and a beginning of those under way
+-- what is left are the settled commands and the first n of those under way, for some n
 pub record Beginning (settled flying kept : List Command) : Type 0 where
   pub more : List Command
   pub rest : List Command
@@ -101,7 +101,7 @@ begins settled (flight ∷ flights) kept h =
     ])
     (without settled flight.batch (in_flight flights) kept) h
 
--- what a crash leaves is a beginning of the decided commands
+-- what a crash leaves is the first n decided commands, for some n
 pub kept_front : (c : Course) (kept : List Command) → Leaves c kept → take (length kept) (decided_commands c) ≡ kept
 kept_front c kept leaves =
     let found = begins c.settled c.flights kept leaves in
@@ -129,7 +129,7 @@ kept_once laws origin c left kept leaves once =
     ∙ laws.joined_effects origin.table c.settled found.more in
     subst (IsSubsequence left) (sym whole) (laws.longer left (effects_from origin c.settled) more once)
 
--- a batch that is begun behind others changes nothing of these
+-- a batch that is begun after others changes nothing of these
 pub stored_begun : {X : Type 0} (settled : List X) (flights : List (Flight X)) (batch : List X)
     → durable_in settled (flights ++ record { batch = batch; stage = Begun } ∷ []) ≡ durable_in settled flights
 stored_begun settled [] batch = refl

@@ -33,7 +33,7 @@ use Rattle.world.specs.Folding.{RunLaws}
 use Rattle.world.specs.Follows.{AreAt, HasFailed, IsAt, IsLife}
 use Rattle.world.proofs.Taking.{begins, commands, given_up_so, lost, strays_so, taken_so}
 
--- ---- where no batch may follow
+-- ---- if no batch may follow
 
 stopped_next : (stage : Stage) (free : Type 0) → (stage ≡ Stopped) ⊎ (stage ≡ Unsure) → NextBehind stage free answers.Idle
 stopped_next stage free (inl is) = subst (λ st. NextBehind st free answers.Idle) (sym is) refl
@@ -71,7 +71,7 @@ next_idle origin c most s begun at none =
     subst (λ l. AnswersNext l c most answers.Idle) (sym at.flights_are)
     (last_next c most begun.ahead begun.last at.behind c.checkpoint _ s at.last none)
 
--- ---- where one may
+-- ---- if one may
 module _ (laws : RunLaws) (origin : Origin) (c : Course) (s : StoreState) (core : DecisionsState) (most : ℕ) (opened : GateWritten) (along : Room)
     (f : IsLife origin c s core (at_gate opened along)) where
   one : c.flights ≡ flights_of (flight Stage.GateWritten (gate_written_sequel opened).decisions ∷ [])
@@ -137,7 +137,7 @@ module _ (laws : RunLaws) (origin : Origin) (c : Course) (s : StoreState) (core 
           }) f.healthy,
         )
 
-    -- or it is lost for want of memory
+    -- or it is lost because memory ran out
     pub follows_lost : (n : ℕ) → IsLegalContinuation (table_behind s opened) (gate_written_sequel opened).seq (take most core.log) → n ≡ length (take most core.log)
         → AnswersNext c.flights c most (answers.GivenUp n) × IsLife origin (after_give_up c most) s (after_taking core most) (at_gate opened along)
     follows_lost n legal is = (

@@ -20,7 +20,8 @@ use Rattle.sessions.specs.Marks.{IsSubsequence}
 use Rattle.world.specs.Follows.{IsOwn}
 use Rattle.world.proofs.Shapes.{turned-shape, turned_all-shape, with_news_of}
 
--- the effects that were emitted, and whether the store is open, stay, and what has left grows at its end
+-- the effects that were emitted, and whether the store is open, stay, and what has left grows at
+-- its end
 pub record Keeps (origin : Origin) (c next : Course) : Type 0 where
   pub emitted : next.emitted ≡ c.emitted
   pub is_open : next.is_open ≡ c.is_open

@@ -26,7 +26,7 @@ passes AllSucceed before after is seen = (tt, (subst (λ o. IsForeseen o true af
 passes (FailsAfter zero) before after is seen = absurd (no_true (subst (λ o. IsForeseen o true after) is seen).0)
 passes (FailsAfter (suc n)) before after is seen = (tt, (subst (λ o. IsForeseen o true after) is seen).1)
 
--- one that failed was armed, where it is always known whether one will
+-- one that failed was armed, if it is always known whether one will fail
 falls : (before after : Outlook) → before ≢ Unknown → IsForeseen before false after → (before ≡ FailsAfter 0) × (after ≡ AllSucceed)
 falls Unknown after known seen = absurd (known refl)
 falls AllSucceed after known seen = absurd (no_false seen.0)

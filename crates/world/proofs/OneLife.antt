@@ -58,7 +58,7 @@ is_emitted answer = 0
 apart : (e : Emission) (answer : Answer) → is_emitted answer ≡ 0 → answers.Emitted e ≡ answer → ⊥
 apart e answer quiet h = let n = ap is_emitted h in absurd (omega (arith, quiet, n))
 
--- no step but an emit is answered by what was emitted
+-- only an emit has an answer with what was emitted
 behind_quiet : (stage : Stage) (e : Emission) → Behind stage (answers.Emitted e) → ⊥
 behind_quiet Stopped e h = apart e (answers.Refused refusals.Failed) refl h
 behind_quiet Unsure e h = apart e (answers.Refused refusals.Failed) refl h
@@ -130,7 +130,7 @@ quiet origin c steps.List e own h = list_quiet e (answers.Listed (table_from ori
 quiet origin c steps.Emit e own h = own
 quiet origin c (steps.Crash image) e own h = own
 
--- what a batch that began stands behind
+-- the batches after which one that began stands
 taken_apart : (other : Answer) (n : ℕ) → has_begun other ≡ 0 → answers.Taken n ≡ other → ⊥
 taken_apart other n quiet h = let tag = ap has_begun h in absurd (omega (arith, quiet, tag))
 
@@ -303,7 +303,7 @@ abbrev refused_with : Answer → ℕ
 refused_with (answers.Refused e) = number_of e
 refused_with answer = 0
 
--- a batch is out of step only behind one that was lost
+-- a batch is out of step only after one that was lost
 behind_in_step : (stage : Stage) → Behind stage (answers.Refused OutOfStep) → ⊥
 behind_in_step Stopped h = let n = ap refused_with h in absurd (omega (arith, n))
 behind_in_step Unsure h = let n = ap refused_with h in absurd (omega (arith, n))
@@ -458,7 +458,7 @@ in_step_on laws origin c (s ∷ steps) (a ∷ told) right still up none is =
     (in_step_on laws origin (course_after origin c s a) steps told right.1 first.1 (none_before a told up) (given_stays origin c s a told first.0 right0 up none)
     (stays_open laws origin c s a first.0 is))
 
--- what a world at its beginning gave, when no step was a crash
+-- what a world at its beginning gave, if no step was a crash
 pub one_life : (laws : RunLaws) (origin : Origin) (effects : List Effect) (steps : List Step) (told : List Answer) → AreRight origin (beginning origin) steps told → HasNoCrash steps
     → (course_of origin (beginning origin) steps told).left ≡ effects
     → IsOneLife origin (course_of origin (beginning origin) steps told) effects steps told

@@ -59,7 +59,7 @@ life_opened origin c kept n s leaves n_is settled healthy table seq holds =
       survives = λ image p. (take (n - origin.number) (decided_commands c), refl, held s.table _ s.seq _ image table_is seq_is (holds image p));
     }
 
--- the life that begins a course, with a store that is there
+-- the life that begins a course, with a store that existed
 pub life_begun : (origin : Origin) (s : StoreState) → IsSettled s → s.failed ≡ false → s.table ≡ origin.table → s.seq ≡ origin.number
     → EveryImage s.log.disk (HoldsTable s.table s.seq) → IsLife origin (beginning origin) s (new_decisions s.table s.seq) at_rest
 life_begun origin s settled healthy table number holds =
@@ -84,7 +84,7 @@ opened_from content s opened images =
       keeps = λ t seq holds image p. let only = opened.only t seq holds in held s.table t s.seq seq image (sym only.0) (sym only.1) (images image p);
     }
 
--- an opening is refused for these two reasons, where others are ruled out
+-- an opening is refused for these two reasons, if others are ruled out
 pub two_reasons : (e : Refusal) → (e ≢ DeviceFailed → e ≢ OutOfMemory → ⊥) → (e ≡ OutOfMemory) ⊎ (e ≡ DeviceFailed)
 two_reasons OutOfMemory h = inl refl
 two_reasons DeviceFailed h = inr refl

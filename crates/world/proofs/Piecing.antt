@@ -21,7 +21,7 @@ one_more origin c moment (first ∷ turns) t before right =
     let rest = one_more origin (after_event origin c moment first.event first.turn.refused first.closings) moment turns t before.1 right in
     ((before.0, rest.0), rest.1)
 
--- an event more
+-- one more event
 pub moves_on : {D : Type 0} {g : _} (state : D → State) (old mid new : Life D g) (moment : ℕ) (turns : List EventTurn) (t : EventTurn) → MovesThrough state old moment turns mid
     → MovesLife state mid (steps.Event moment t.event) (answers.Turn t.turn t.closings) new → MovesThrough state old moment (turns ++ t ∷ []) new
 moves_on state old mid new moment turns t through move origin c f =
@@ -30,12 +30,12 @@ moves_on state old mid new moment turns t through move origin c f =
     let more = one_more origin c moment turns t before.0 moved.0 in
     (more.0, subst (λ k. FollowsLife state origin k new) (sym more.1) moved.1)
 
--- what a core has heard once more came over a link
+-- what a core has additionally heard came over a link
 pub listens-told : (c : Course) (core : CoreState) (links links' : Links) (link : ℕ) (bytes : List ℕ) → IsListening c core links
     → ((l : ℕ) → HasSaid (stream_on l (c.pieces ++ record { link = link; bytes = bytes } ∷ [])) (heard_on links' l)) → IsListening (with_piece c link bytes) core links'
 listens-told c core links links' link bytes f said = record { clock = f.clock; windows = f.windows; said = said }
 
--- and where nothing of it counts
+-- and if nothing of it counts
 pub listens-same : (c : Course) (core : CoreState) (links links' : Links) → IsListening c core links → ((l : ℕ) → heard_on links' l ≡ heard_on links l)
     → IsListening c core links'
 listens-same c core links links' f same =

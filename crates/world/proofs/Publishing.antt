@@ -24,7 +24,7 @@ some_left : (n : ℕ) → 1 ≤ n → CallsLeft n ≡ with_calls_left n
 some_left zero some = absurd (omega (arith, some))
 some_left (suc n) some = refl
 
--- it begins where nothing is begun
+-- it begins if nothing is begun
 pub publishes : (origin : Origin) (c : Course) (s : StoreState) (core : DecisionsState) (begun : Checkpoint) (calls : ℕ)
     → calls ≡ calls_left s (Begun begun) → (IsSettled s → IsCheckpointOn s begun) → IsLife origin c s core at_rest
     → AnswersCheckpoint c.flights c.checkpoint (answers.Begun calls)

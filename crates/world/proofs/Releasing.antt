@@ -28,7 +28,7 @@ use Rattle.world.specs.Sound.{HasRoom, HasRoomForEach}
 use Rattle.world.specs.Follows.{AreAt, HasFailed, IsAt, IsHealthy, IsLife}
 use Rattle.world.proofs.Shapes.{turned-shape, turned_all-shape}
 
--- what is behind a batch that was ahead stays where it is
+-- what is after a batch that was ahead stays where it is
 failed_none : (behind : List (Flight Command)) (checkpoint : Checkpoint) (durable : Done) → HasFailed behind (Some durable) checkpoint → HasFailed behind None checkpoint
 failed_none [] checkpoint durable at = absurd at
 failed_none (flight ∷ []) checkpoint durable at = at
@@ -71,7 +71,7 @@ module _ (laws : RunLaws) (origin : Origin) (c : Course) (durable : Done) (rest 
         survives = flown.survives;
       })
 
-  -- and lets these out
+  -- and lets these leave
   pub lets : (old new : List Released) → effects_of_all new ≡ effects_of_all old ++ effects_in (decisions_of durable)
       → c.left ≡ effects_of_all old → (after_release origin c c.flights).left ≡ effects_of_all new
   lets old new more left =
@@ -131,7 +131,7 @@ pub sound_left : (s : StoreState) (old new : Pipeline) (durable : Done) → Give
 sound_left s old new durable (inl found) may = subst (λ k. MayGoOn s k.last × IsBehind k.ahead k.last) (sym found.1) (may, tt)
 sound_left s old new durable (inr found) may = subst (λ k. MayGoOn s k.last × IsBehind k.ahead k.last) (sym found.1) (tt, tt)
 
--- a turn lets nothing out
+-- a turn lets nothing leave
 pub event_left : (origin : Origin) (c : Course) (moment : ℕ) (event : Event) (answer : Answer)
     → (course_after origin c (steps.Event moment event) answer).left ≡ c.left
 event_left origin c moment event (answers.Turn turn closings) = ap (λ (k : Course). k.left) (turned-shape origin c moment event turn.refused closings)

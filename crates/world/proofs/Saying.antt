@@ -18,7 +18,7 @@ after_append : (peer : Option Peer) (xs ys : List Message) → peer_after peer (
 after_append peer [] ys = refl
 after_append peer (x ∷ xs) ys = after_append (peer_after_one peer x) xs ys
 
--- a piece more belongs to its own link's stream
+-- one more piece belongs to its own link's stream
 stream_more : (l link : ℕ) (bytes : List ℕ) (pieces : List Piece)
     → stream_on l (pieces ++ record { link = link; bytes = bytes } ∷ []) ≡ cond (nat_eq link l) (stream_on l pieces ++ bytes) (stream_on l pieces)
 stream_more l link bytes [] = by (nat_eq link l)
@@ -35,13 +35,13 @@ stream_more l link bytes (piece ∷ pieces) = by (nat_eq piece.link l) (nat_eq l
     by false true behind longer is = is
     by false false behind longer is = is
 
--- where messages hand in nothing, neither the first does nor the others
+-- if messages have no events, neither the first has any nor the others
 pub nothing_in_each : (peer : Option Peer) (message : Message) (messages : List Message) → AreHandedIn peer (message ∷ messages) []
     → HandsIn peer message None × AreHandedIn (peer_after_one peer message) messages []
 nothing_in_each peer message messages (None, others, first, rest, is) = (first, subst (AreHandedIn (peer_after_one peer message) messages) (sym is) rest)
 nothing_in_each peer message messages (Some event, others, first, rest, is) = let no : [] ≡ event ∷ others = is in cc
 
--- and a message that hands in nothing hands in no event
+-- and a message that has no events has no event
 pub hands_nothing : (peer : Option Peer) (message : Message) (event : Option Event) → HandsIn peer message None → HandsIn peer message event → event ≡ None
 hands_nothing peer message None nothing is = refl
 hands_nothing peer (Greeting greeted) (Some event) nothing is = is
@@ -110,7 +110,7 @@ abbrev pub OneLaw : Type 0
 OneLaw =
     (peer : Option Peer) (stream : List ℕ) (a b : List Message) (x y : End) → IsSaid peer stream a x → IsSaid peer stream b y → (a ≡ b) × (x ≡ y)
 
--- bytes that come behind no fault add something
+-- bytes that come when there was no fault before add something
 pub adds-something : OneLaw → (stream piece : List ℕ) (heard : FeedState) → HasSaid stream heard → piece ≢ [] → ¬ (IsSome (fault_in heard.end)) → ¬ (AddsNothing stream piece)
 adds-something law stream piece heard said some faultless (inl empty) = some empty
 adds-something law stream piece heard said some faultless (inr (messages, refusal, fault)) =

@@ -1,4 +1,5 @@
--- What events leave of a course: all but what waits, how many were decided, the time, the copies and the windows.
+-- What events leave of a course: everything except what waits, how many were decided, the time, the
+-- copies and the windows.
 use Rattle.std.proofs.Common.{◌≡◌, ◌∙◌, ℕ, List, [], ◌∷◌, take, Option, Some, None, Result, Ok, Err, refl, ap}
 use Rattle.lw_types.specs.declared.refusal.Refusal.{Refusal}
 use Rattle.lw_types.specs.declared.frame_copy.FrameCopy.{FrameCopy}
@@ -16,17 +17,17 @@ use Rattle.world.specs.Course.{Origin, Course, after_own_copy, after_commands, a
 use Rattle.world.specs.Follows.{IsLife}
 use Rattle.world.specs.Links.{Piece}
 
--- the same life, whatever was heard, and however much was emitted
+-- the same life, for any frames heard and any number of emitted effects
 pub same-life : {origin : Origin} {c : Course} {s : StoreState} {core : DecisionsState} {commit : Pipeline} {emitted clock shut : ℕ} {arrivals : List Arrival} {pieces : List Piece}
     → IsLife origin c s core commit → IsLife origin (record c { emitted = emitted; clock = clock; arrivals = arrivals; shut = shut; pieces = pieces }) s core commit
 same-life f =
     record { table = f.table; seq = f.seq; base = f.base; number = f.number; untaken = f.untaken; made = f.made; under_way = f.under_way; healthy = f.healthy; survives = f.survives }
 
--- the same course, but for what waits and how many were decided
+-- the same course, except what waits and how many were decided
 abbrev pub with_decisions_of : Course → Course → Course
 with_decisions_of c other = record c { untaken = other.untaken; made = other.made }
 
--- and but for what was heard
+-- and except what was heard
 abbrev pub with_news_of : Course → Course → Course
 with_news_of c other =
     record c { untaken = other.untaken; made = other.made; clock = other.clock; arrivals = other.arrivals; shut = other.shut }

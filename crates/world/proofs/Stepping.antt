@@ -1,4 +1,4 @@
--- One step more in a run.
+-- One more step in a run.
 use Rattle.std.proofs.Common.{◌≡◌, ℕ, List, [], ◌∷◌, ◌++◌, sym, subst, refl}
 use Rattle.disk.specs.Outlook.{Outlook}
 use Rattle.disk.specs.declared.disk.Disk.{Ghosts}

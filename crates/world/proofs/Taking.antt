@@ -51,12 +51,12 @@ take_some n [] some_asked some = absurd (some refl)
 take_some zero (d ∷ ds) some_asked some = absurd (omega (arith, some_asked))
 take_some (suc n) (d ∷ ds) some_asked some = λ none. let size = ap length none in absurd (omega (arith, size))
 
--- a list behind what was taken
+-- a list after what was taken
 behind_all : (settled flying lost more : List Command) → (settled ++ (flying ++ lost)) ++ more ≡ settled ++ (flying ++ (lost ++ more))
 behind_all settled flying lost more =
     append_assoc settled (flying ++ lost) more ∙ ap (λ l. settled ++ l) (append_assoc flying lost more)
 
--- where nothing was lost it is a batch behind the others
+-- if nothing was lost it is a batch after the others
 behind_flights : (settled flying lost more : List Command) → lost ≡ [] → (settled ++ (flying ++ lost)) ++ more ≡ settled ++ ((flying ++ more) ++ lost)
 behind_flights settled flying lost more none =
     subst (λ lost. (settled ++ (flying ++ lost)) ++ more ≡ settled ++ ((flying ++ more) ++ lost)) (sym none)
@@ -114,7 +114,7 @@ module _ (laws : RunLaws) (origin : Origin) (c : Course) (s : StoreState) (core 
         survives = f.survives;
       }
 
-  -- the batch is begun behind the others
+  -- the batch is begun after the others
   pub begins : (next : Pipeline) → c.given_up ≡ [] → AreAt origin c.settled (after_take c most).flights c.checkpoint s next → IsHealthy s next.last
       → IsLife origin (after_take c most) s (after_taking core most) next
   begins next none at healthy =
@@ -134,9 +134,9 @@ module _ (laws : RunLaws) (origin : Origin) (c : Course) (s : StoreState) (core 
         survives = λ image p. let found = f.survives image p in (found.0, leaves_begun c.settled c.flights batch found.0 found.1, found.2);
       }
 
-  -- Where the batch would follow this table and number, which all batches lead to.
+  -- Whether the batch would follow this table and number, to which all batches lead.
   module _ (t : TableState) (n : ℕ) (t_is : t ≡ table_from origin (c.settled ++ in_flight c.flights)) (n_is : n ≡ number_from origin (c.settled ++ in_flight c.flights)) where
-    -- a legal batch is behind no lost one
+    -- a legal batch has no lost one before it
     none_lost : (ds : List Decision) → ds ≡ take most core.log → IsLegalContinuation t n ds → c.given_up ≡ []
     none_lost ds is legal =
         let same : n ≡ core.opening + core.taken = one_number n (core.opening + core.taken) ds legal.continues.numbered
@@ -147,7 +147,7 @@ module _ (laws : RunLaws) (origin : Origin) (c : Course) (s : StoreState) (core 
         let size = length-append (c.settled ++ in_flight c.flights) c.given_up in
         none_left c.given_up (omega (arith, same, settled, before, whole, size))
 
-    -- and one behind no lost one is legal
+    -- and one with no lost one before it is legal
     is_legal : 1 ≤ most → core.log ≢ [] → c.given_up ≡ [] → IsLegalContinuation t n (take most core.log)
     is_legal asked some none =
         let alone : taken_commands c ≡ c.settled ++ in_flight c.flights =
@@ -173,7 +173,7 @@ module _ (laws : RunLaws) (origin : Origin) (c : Course) (s : StoreState) (core 
     pub strays_so : 1 ≤ most → ¬ (IsLegalContinuation t n (take most core.log)) → core.log ≢ [] → Takes c most (answers.Refused OutOfStep)
     strays_so asked illegal some = (waits some, inr (refl, λ none. illegal (is_legal asked some none)))
 
--- A take of a life with nothing begun, where some decisions wait.
+-- A take of a life with nothing begun, if some decisions wait.
 module _ (laws : RunLaws) (origin : Origin) (c : Course) (s : StoreState) (core : DecisionsState) (lawful : IsLawful core) (most : ℕ)
     (f : IsLife origin c s core at_rest) (some : core.log ≢ []) where
   none_flying : c.flights ≡ []
@@ -216,7 +216,7 @@ module _ (laws : RunLaws) (origin : Origin) (c : Course) (s : StoreState) (core 
         }) f.healthy,
       )
 
-  -- or is lost for want of memory
+  -- or is lost because memory ran out
   pub loses : (n : ℕ) → IsLegalContinuation s.table s.seq (take most core.log) → n ≡ length (take most core.log)
       → AnswersTake c.flights c most (answers.GivenUp n) × IsLife origin (after_give_up c most) s (after_taking core most) at_rest
   loses n legal is = (
@@ -245,7 +245,8 @@ moved origin c s s' core core' commit commit' store core_is commit_is f =
 no_memory : OutOfStep ≢ OutOfMemory
 no_memory h = let numbers = ap number_of h in absurd (omega (arith, numbers))
 
--- what is told of a batch that wasn't begun: for want of memory it is given up, else it is out of step
+-- the answer for a batch that wasn't begun: if memory ran out it is given up, else it is out of
+-- step
 pub told_so : (e : Refusal) (n : ℕ) (P : Answer → Type 0) → (e ≡ OutOfMemory → P (answers.GivenUp n))
     → (e ≢ OutOfMemory → (e ≡ OutOfStep) × P (answers.Refused OutOfStep)) → P (told_by (Err e) n)
 told_so OutOfMemory n P lost astray = lost refl

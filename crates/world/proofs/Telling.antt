@@ -1,4 +1,4 @@
--- What a step's answer tells of the disk.
+-- What a step's answer says of the disk.
 use Rattle.std.proofs.Common.{◌≡◌, ◌∙◌, ℕ, refl, sym}
 use Rattle.disk.specs.State.{State}
 use Rattle.store.specs.State.{disk_of}
@@ -16,7 +16,7 @@ one_disk (Open life) a b first second = first ∙ sym second
 one_disk (Closed d) a b first second = first ∙ sym second
 one_disk Crashing a b first second = absurd first
 
--- and it has that, where it is sound
+-- and it has that, if it is sound
 pub some_disk : {D : Type 0} {g : _} (state : D → State) (place : Place D g) (there fit : ℕ) → IsSoundPlace state place there fit
     → (disk : D) × HasDisk place disk
 some_disk state (Open life) there fit sound = (disk_of life.store, refl)

@@ -169,7 +169,7 @@ module _ (laws : RunLaws) (origin : Origin) (s : StoreState) (commit : Pipeline)
   at-listened c core copy None f = same-life f
   at-listened c core copy (Some e) f = f
 
-  -- so many windows were closed, and their frames were gone through
+  -- this number of windows were closed, and their frames were gone through
   pub record Shut (c : Course) (old new : CoreState) (n : ℕ) : Type 0 where
     pub front : List Window
     pub windows : old.windows ≡ front ++ new.windows
@@ -295,7 +295,7 @@ module _ (laws : RunLaws) (origin : Origin) (s : StoreState) (commit : Pipeline)
         let few = k.some some in
         lt_true between.closings (length (due_frames (at_moment c moment))) (omega (arith, all, few))
 
-    -- where the event's own is done
+    -- the end of the event's own turn
     abbrev there : Course
     there = with_closings between.closings (after_commands origin (at_moment c moment) (take between.closings (due_frames (at_moment c moment))))
 
@@ -313,7 +313,7 @@ module _ (laws : RunLaws) (origin : Origin) (s : StoreState) (commit : Pipeline)
     own_starved : (event : Event) (refused : Option Refusal) → has_due between ≡ true → refused ≡ Some OutOfMemory → Own event refused
     own_starved event refused some own = subst (λ b. MatchBool b (refused ≡ Some OutOfMemory) (IsOwnRight origin there event refused)) (sym (some_left some)) own
 
-    -- the answer to an event, and the life behind it
+    -- the answer to an event, and the life after it
     abbrev Turns : Event → Turn → ℕ → DecisionsState → Type 0
     Turns event turn closings decisions =
         IsTurnAnswer origin c moment event turn closings × IsLife origin (after_event origin c moment event turn.refused closings) s decisions commit

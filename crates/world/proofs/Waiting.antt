@@ -1,4 +1,4 @@
--- What is answered while something is begun.
+-- What is returned while something is begun.
 use Rattle.std.proofs.Common.{◌≡◌, ◌∙◌, ◌⊎◌, ◌≤◌, inl, inr, ℕ, zero, suc, List, [], ◌∷◌, ◌++◌, Option, Some, None, length, sym, ap, subst, refl, arith}
 use Rattle.lw_types.specs.declared.refusal.Refusal.TheVariants as refusals
 use Rattle.devices.specs.declared.command.Command.{Command}
@@ -25,13 +25,13 @@ use Rattle.world.specs.Course.{Checkpoint, Course, Origin, course_after, table_f
 use Rattle.world.specs.Follows.{AreAt, HasFailed, IsAt}
 use Rattle.world.proofs.Calling.{some_calls}
 
--- ---- where the last commit is, behind what is ahead
+-- ---- where the last commit is, after what is ahead
 
 beside_calls : (n : ℕ) (free : Type 0) (answer : Answer) → 1 ≤ n → answer ≡ answers.Idle → Beside (with_calls_left n) free answer
 beside_calls zero free answer some is = absurd (omega (arith, some))
 beside_calls (suc n) free answer some is = is
 
--- what is answered where nothing may begin, and what would be at rest
+-- what is returned if nothing may begin, and what would be at rest
 abbrev Waits : Type 0 → List (Flight Command) → Checkpoint → Answer → Type 0
 Waits free [] checkpoint answer = Beside checkpoint free answer
 Waits free (flight ∷ flights) checkpoint answer = Behind (last_stage flight flights) answer
@@ -189,7 +189,7 @@ pub is_still : (last : LastCommit) → ((u : UnderWay Room) → last ≡ commits
 is_still (commits.UnderWay u) none = none u refl
 is_still commit none = tt
 
--- ---- what nothing that may not begin changes
+-- ---- what doesn't change when nothing may begin
 
 hinders_or : (last : LastCommit) (answer : Answer) → HindersLast last answer → (answer ≡ answers.Idle) ⊎ (answer ≡ answers.Refused refusals.Failed)
 hinders_or commits.Failed answer h = inr h

@@ -1,4 +1,4 @@
--- Which answers are right in a course. Whether a call of the disk fails is said by `Calls.antt`.
+-- Which answers are right in a course. `Calls.antt` says whether a call of the disk fails.
 use Rattle.std.specs.Prelude.{◌≡◌, ◌≢◌, ◌≤◌, ◌⊎◌, ℕ, false, nat_lt, List, [], ◌∷◌, length}
 use Rattle.std.specs.Prelude.{map, take, slice_get, Option, Some, None, MatchBool}
 use Rattle.std.specs.Option.{MatchOption}
@@ -30,16 +30,17 @@ use Rattle.world.specs.Course.{number_from, with_closings, table_from, with_piec
 use Rattle.world.specs.Course.{step_if_room, course_windows}
 use Rattle.world.specs.Course.Checkpoint.{NotUnderWay, CallsLeft, CallFailed}
 
--- what a command is answered: it is decided, or refused as it has to be; that there is no room is
--- known before any memory is taken
+-- the answer to a command: it is decided, or refused as it has to be; a lack of room is noticed
+-- before any memory is allocated
 pub record IsAsked (origin : Origin) (c : Course) (command : Command)
     (refused : Option Refusal) : Type 0 where
   pub full : has_room origin c ≡ false → refused ≡ Some refusals.Backlog
   pub decided : AnswersTo command (step_if_room origin c command) (λ _ _. Unit {0})
       (verdict_of refused)
 
--- what a copy is answered: only where it is on a channel at a data rate that a device may use it is
--- accepted, or refused by the groups that wait; or memory ran out
+-- the answer to a copy: if it is on a channel at a data rate that a device may use, it is accepted,
+-- or refused because of the groups that wait; otherwise it is refused as UnknownChannel; or memory
+-- ran out
 pub record IsCopyAnswer (c : Course) (copy : FrameCopy) (refused : Option Refusal) : Type 0 where
   pub receivable : IsReceivable copy.reception
       → AnswersWithMemory (windows_with (course_windows c) c.clock copy) (λ _ _. Unit {0})
@@ -47,14 +48,14 @@ pub record IsCopyAnswer (c : Course) (copy : FrameCopy) (refused : Option Refusa
   pub unknown : ¬ (IsReceivable copy.reception)
       → (refused ≡ Some refusals.UnknownChannel) ⊎ (refused ≡ Some refusals.OutOfMemory)
 
--- the answer to an event's own, once the windows that are due are closed
+-- the answer to the event itself, once the windows that are due are closed
 abbrev pub IsOwnRight : Origin → Course → Event → Option Refusal → Type 0
 IsOwnRight origin c (events.Hear copy) refused = IsCopyAnswer c copy refused
 IsOwnRight origin c events.Tick refused = refused ≡ None
 IsOwnRight origin c (events.Ask command) refused = IsAsked origin c command refused
 
--- The turn of an event at its moment: it counts the decisions of this life. Its own is answered
--- where all windows that are due were closed; where fewer were, memory ran out.
+-- The turn of an event at its moment: it counts the decisions of this life. The event itself is
+-- answered if all windows that are due were closed; if fewer were, memory ran out.
 pub record IsTurnAnswer (origin : Origin) (c : Course) (moment : ℕ) (event : Event) (turn : Turn)
     (closings : ℕ) : Type 0 where
   pub from : turn.from ≡ c.made
@@ -82,9 +83,9 @@ AreTurns origin c moment (t ∷ turns) =
 abbrev pub event_of : EventTurn → Event
 event_of t = t.event
 
--- A piece of a link's bytes is answered by the turns of the events that it hands in, and by its
--- fault; or nothing of it counts, since there was no memory for it. One that adds nothing to what
--- its link has said wants none.
+-- A piece of a link's bytes is answered by the turns of its events and by its fault; or nothing of
+-- it counts, since there was no memory for it. One that adds nothing to what its link has said
+-- needs no memory.
 abbrev pub AnswersPiece : Origin → Course → ℕ → ℕ → List ℕ → Answer → Type 0
 AnswersPiece origin c link moment bytes (answers.Turns turns fault) =
     Completes (stream_on link c.pieces) bytes (map event_of turns.items) fault
@@ -93,8 +94,8 @@ AnswersPiece origin c link moment bytes (answers.Refused e) =
     (e ≡ refusals.OutOfMemory) × ¬ (AddsNothing (stream_on link c.pieces) bytes)
 AnswersPiece origin c link moment bytes answer = ⊥
 
--- nothing is taken where nothing waits; a batch begins or is lost behind no lost one, and is out of
--- step behind one alone
+-- nothing is taken if nothing waits; a batch begins or is lost only if none was lost before, and is
+-- out of step only if one was
 abbrev pub Takes : Course → ℕ → Answer → Type 0
 Takes c most answers.Idle = c.untaken ≡ []
 Takes c most answers.Full = c.untaken ≢ []
@@ -106,8 +107,8 @@ Takes c most (answers.Refused e) =
     (c.untaken ≢ []) × ((e ≡ refusals.OutOfMemory) ⊎ ((e ≡ refusals.OutOfStep) × (c.given_up ≢ [])))
 Takes c most answer = ⊥
 
--- a checkpoint begins, of this number of device calls; or there was no memory, or the live area has
--- the last generation
+-- a checkpoint begins, of this number of device calls; or memory ran out, or the live area has the
+-- last generation
 abbrev pub Checkpoints : Answer → Type 0
 Checkpoints (answers.Begun calls) = (calls ≡ 4) ⊎ (calls ≡ 6)
 Checkpoints (answers.Refused e) = (e ≡ refusals.OutOfMemory) ⊎ (e ≡ refusals.Damaged)
@@ -135,7 +136,8 @@ abbrev pub AnswersTake : List (Flight Command) → Course → ℕ → Answer →
 AnswersTake [] c most answer = Beside c.checkpoint (Takes c most answer) answer
 AnswersTake (flight ∷ flights) c most answer = Behind (last_stage flight flights) answer
 
--- a batch is taken behind the one that is begun, alone, while its gate is written and not synced
+-- a batch is taken after the one that is begun, if that is the only one and its gate is written and
+-- not synced
 abbrev pub NextBehind : Stage → Type 0 → Answer → Type 0
 NextBehind GateWritten free answer = free
 NextBehind stage free answer = answer ≡ answers.Idle
@@ -152,7 +154,7 @@ AnswersCheckpoint (flight ∷ flights) checkpoint answer = Behind (last_stage fl
 abbrev pub IsCalled : Answer → Type 0
 IsCalled answer = (answer ≡ answers.Called) ⊎ (answer ≡ answers.Refused refusals.DeviceFailed)
 
--- one of the youngest batch, and of the one in front of it
+-- one of the youngest batch, and of the one before it
 abbrev pub AnswersStage : Stage → Answer → Type 0
 AnswersStage Durable answer = answer ≡ answers.Idle
 AnswersStage Stopped answer = answer ≡ answers.Idle
@@ -220,7 +222,7 @@ AnswersOpen origin c steps.Emit answer = AnswersEmit c answer
 AnswersOpen origin c steps.List answer = AnswersList origin c answer
 AnswersOpen origin c (steps.Crash image) answer = AnswersCrash origin c answer
 
--- while it is closed, since an opening was refused, a crash alone may open it
+-- while it is closed, since an opening was refused, only a crash may open it
 abbrev pub AnswersClosed : Origin → Course → Step → Answer → Type 0
 AnswersClosed origin c steps.Emit answer = AnswersEmit c answer
 AnswersClosed origin c (steps.Crash image) answer = AnswersCrash origin c answer

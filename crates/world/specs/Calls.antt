@@ -1,4 +1,4 @@
--- What is known of the calls of a disk, as the steps and their answers alone tell it.
+-- What is known of the calls of a disk from the steps and their answers alone.
 use Rattle.std.specs.Prelude.{◌≡◌, ◌+◌, ◌^◌, ℕ, zero, suc, nat_lt, if◌then◌else◌, List, [], ◌∷◌}
 use Rattle.lw_types.specs.declared.refusal.Refusal.TheVariants.{DeviceFailed}
 use Rattle.disk.specs.declared.sim.Image.{Image}
@@ -11,7 +11,7 @@ use Rattle.world.specs.declared.step.Step.TheVariants as steps
 use Rattle.world.specs.declared.place.Place.{Place}
 use Rattle.world.specs.Sound.{HasDisk}
 
--- how many calls have failed, and what the coming ones will answer
+-- how many calls have failed, and what the coming ones will return
 pub record CallRecord : Type 0 where
   pub failed : ℕ
   pub coming : Outlook
@@ -25,16 +25,16 @@ abbrev pub outlook_after_success : Outlook → Outlook
 outlook_after_success (FailsAfter (suc n)) = FailsAfter n
 outlook_after_success coming = coming
 
--- after the number of calls that succeeded as an opening makes
+-- after an opening whose calls succeeded
 abbrev pub outlook_after_opening : Outlook → Outlook
 outlook_after_opening (FailsAfter n) = Unknown
 outlook_after_opening coming = coming
 
--- after one that failed: one failure is one failure
+-- after a call that failed: an armed failure is used up
 abbrev pub calls_after_failure : CallRecord → CallRecord
 calls_after_failure calls = record { failed = calls.failed + 1; coming = AllSucceed }
 
--- after a step that was answered so
+-- after a step with this answer
 abbrev pub calls_after : CallRecord → Step → Answer → CallRecord
 calls_after calls steps.Fail answers.Armed = record calls { coming = armed_outlook calls.failed }
 calls_after calls steps.Call answers.Called =
@@ -45,7 +45,7 @@ calls_after calls (steps.Crash image) answer =
     record calls { coming = outlook_after_opening calls.coming }
 calls_after calls step answer = calls
 
--- and after so many steps
+-- and after these steps
 abbrev pub calls_of : CallRecord → List Step → List Answer → CallRecord
 calls_of calls (step ∷ rest) (answer ∷ others) =
     calls_of (calls_after calls step answer) rest others
@@ -72,8 +72,8 @@ abbrev pub IsNoFailure : Answer → Type 0
 IsNoFailure (answers.Refused DeviceFailed) = ⊥
 IsNoFailure answer = Unit {0}
 
--- A call or an opening is refused as DeviceFailed where one of its calls is to fail, as far as that
--- is known, and no other step is. The first call of an opening comes before memory is taken, and
+-- A call or an opening is refused as DeviceFailed if one of its calls is to fail, as far as that is
+-- known, and no other step is. The first call of an opening comes before memory is allocated, and
 -- before anything is read.
 abbrev pub IsForetold : CallRecord → Step → Answer → Type 0
 IsForetold calls steps.Call answers.Called = MaySucceed calls.coming
@@ -89,7 +89,7 @@ AreForetold calls (step ∷ rest) (answer ∷ others) =
     IsForetold calls step answer × AreForetold (calls_after calls step answer) rest others
 AreForetold calls rest others = ⊥
 
--- what is known of the coming calls is so
+-- what is known of the coming calls is true
 abbrev pub IsKnownOutlook : Outlook → Outlook → Type 0
 IsKnownOutlook Unknown outlook = Unit {0}
 IsKnownOutlook AllSucceed outlook = outlook ≡ AllSucceed
@@ -106,8 +106,8 @@ abbrev pub AreCallsAt : {D : Type 0} {g : _} → (D → ℕ) → (D → Outlook)
 AreCallsAt {D} failures outlook calls place =
     (disk : D) → HasDisk place disk → AreRecordedCalls calls (failures disk) (outlook disk)
 
--- A step of which the disk was this one and is that one: whatever was known of its calls, the
--- answer is as foretold, and what the answer tells of them is so.
+-- A step with this disk before and that disk after: for everything known of the disk's calls, the
+-- answer is as foretold, and what the answer says of them is true.
 abbrev pub Foretells : {D : Type 0} → (D → ℕ) → (D → Outlook) → D → Step → Answer → D → Type 0
 Foretells failures outlook before step answer now =
     (calls : CallRecord) → AreRecordedCalls calls (failures before) (outlook before)

@@ -55,7 +55,7 @@ abbrev pub flights_ahead : Option Durable → List (Flight Decision)
 flights_ahead None = []
 flights_ahead (Some durable) = flight Stage.Durable (decisions_of durable) ∷ []
 
--- those of the last commit, where it hasn't failed
+-- those of the last commit, if it hasn't failed
 abbrev pub flights_last : LastCommit → List (Flight Decision)
 flights_last (UnderWay under_way) = flights_in under_way
 flights_last (Done durable) = flight Stage.Durable (decisions_of durable) ∷ []
@@ -77,7 +77,7 @@ abbrev pub settled_ahead : List Command → Option Durable → List Command
 settled_ahead settled None = settled
 settled_ahead settled (Some durable) = settled ++ commands_of (decisions_of durable)
 
--- each batch was made of the table that those before it leave
+-- each batch was made from the table that those before it leave
 abbrev pub FitFlights : TableState → List (Flight Decision) → Type 0
 FitFlights t [] = Unit {0}
 FitFlights t (f ∷ flights) =
@@ -99,19 +99,19 @@ abbrev pub MayGoOn : StoreState → LastCommit → Type 0
 MayGoOn s (UnderWay under_way) = IsOnItsWay s under_way
 MayGoOn s commit = Unit {0}
 
--- a batch is ahead of one batch alone
+-- a batch is ahead of only one batch
 abbrev pub IsBehind : Option Durable → LastCommit → Type 0
 IsBehind None commit = Unit {0}
 IsBehind (Some durable) Failed = Unit {0}
 IsBehind (Some durable) commit = length (flights_last commit) ≡ 1
 
--- none is ahead of a batch that became durable in front of another one
+-- no batch is ahead of one that became durable before another one
 abbrev pub IsAlone : Option Durable → Called Room → Type 0
 IsAlone ahead (calls.Durable durable room (Some next)) = ahead ≡ None
 IsAlone ahead called = Unit {0}
 
--- The last commit goes on with what a device call led to. A batch that is durable keeps its
--- decisions, and is ahead of what is under way behind it.
+-- The last commit continues with what a device call led to. A batch that is durable keeps its
+-- decisions, and is ahead of what is under way after it.
 abbrev pub GoesOn : Option Durable → Called Room → Pipeline → Type 0
 GoesOn ahead (calls.UnderWay next) new = new ≡ record { ahead = ahead; last = UnderWay next }
 GoesOn ahead (calls.Durable durable room None) new =
@@ -122,7 +122,7 @@ GoesOn ahead (calls.Durable durable room (Some next)) new =
     × (new ≡ record { ahead = Some done; last = UnderWay next })
 GoesOn ahead calls.Published new = new ≡ record { ahead = ahead; last = Idle }
 
--- what is answered where nothing may begin
+-- what is returned if nothing may begin
 abbrev pub HindersLast : LastCommit → Answer → Type 0
 HindersLast Failed answer = answer ≡ answers.Refused refusals.Failed
 HindersLast commit answer = answer ≡ answers.Idle

@@ -1,5 +1,5 @@
--- The course of a world: what was decided, how far it is on its way to the disk, and what has left,
--- as the steps and their answers alone tell it.
+-- The course of a world: what was decided, how far it is on its way to the disk, and what has left.
+-- It follows from the steps and their answers alone.
 use Rattle.std.specs.Prelude.{ℕ, zero, ◌+◌, ◌-◌, Bool, true, false, List, [], ◌∷◌, ◌++◌, length}
 use Rattle.std.specs.Prelude.{take, drop, map, filter, max, nat_lt, ◌&&◌, if◌then◌else◌, Option}
 use Rattle.std.specs.Prelude.{Some, None, Result, Ok, Err}
@@ -44,7 +44,7 @@ pub record Origin : Type 0 where
 abbrev pub new_store : ℕ → ℕ → Origin
 new_store net_id slots = record { table = empty_table net_id slots; number = 0; marks = [] }
 
--- a store that was there, with the marks that were used up before
+-- a store that existed, with the marks that were used up before
 abbrev pub adopted_store : TableState → ℕ → List Mark → Origin
 adopted_store t seq marks = record { table = t; number = seq; marks = marks }
 
@@ -63,17 +63,17 @@ pub record Course : Type 0 where
   pub settled : List Command
   -- the batches under way, the oldest first
   pub flights : List (Flight Command)
-  -- the checkpoint under way, which no batch is beside
+  -- the checkpoint under way, beside which no batch is
   pub checkpoint : Checkpoint
-  -- the commands that were taken in this life, and lost for want of memory
+  -- the commands that were taken in this life, and lost because memory ran out
   pub given_up : List Command
   -- those that wait
   pub untaken : List Command
-  -- how many commands were decided in this life
+  -- the number of commands that were decided in this life
   pub made : ℕ
   -- the effects that were released, over all lives
   pub left : List Effect
-  -- how many of them were emitted, or lost at a crash
+  -- the number of them that were emitted, or lost at a crash
   pub emitted : ℕ
   -- whether the store is open
   pub is_open : Bool
@@ -81,7 +81,7 @@ pub record Course : Type 0 where
   pub clock : ℕ
   -- the copies that were accepted in this life, with the effective times at which they came
   pub arrivals : List Arrival
-  -- how many of their groups were closed
+  -- the number of their groups that were closed
   pub shut : ℕ
   -- the pieces that came over links in this life, in order
   pub pieces : List Piece
@@ -109,18 +109,18 @@ beginning origin =
 abbrev pub decided_commands : Course → List Command
 decided_commands c = c.settled ++ (in_flight c.flights ++ (c.given_up ++ c.untaken))
 
--- whether there is room for one command more that waits, and a number for it
+-- whether there is room for one more command that waits, and a number for it
 abbrev pub has_room : Origin → Course → Bool
 has_room origin c =
     nat_lt (length c.untaken) MOST_UNTAKEN
     && nat_lt (number_from origin (decided_commands c)) LAST_NUMBER
 
--- what a command is to get: while there is room, its step in the table after every decided command
+-- what a command gets: while there is room, its step in the table after every decided command
 abbrev pub step_if_room : Origin → Course → Command → Result TableStep Refusal
 step_if_room origin c command =
     if has_room origin c then step (table_from origin (decided_commands c)) command else Err Backlog
 
--- a command that is to get this is decided, or changes nothing
+-- a command that gets this is decided, or changes nothing
 abbrev pub after_command : Course → Command → Result TableStep Refusal → Course
 after_command c command (Ok s) = record c { untaken = c.untaken ++ command ∷ []; made = c.made + 1 }
 after_command c command (Err e) = c
@@ -147,18 +147,17 @@ window_command window = Heard (heard_in window)
 abbrev pub due_frames : Course → List Command
 due_frames c = map window_command (filter (is_due c.clock) (course_windows c))
 
--- the commands that an event hands in, one after another: the frames whose windows are due, and
--- then its own
+-- the commands of an event, one after another: the frames whose windows are due, and then its own
 abbrev pub commands_at : Course → Event → List Command
 commands_at c (events.Ask command) = due_frames c ++ command ∷ []
 commands_at c event = due_frames c
 
--- those of a step that is an event; a piece hands in events, one after another
+-- those of a step that is an event; a piece has events, one after another
 abbrev pub step_commands : Course → Step → List Command
 step_commands c (steps.Event moment event) = commands_at (at_moment c moment) event
 step_commands c step = []
 
--- How many of them were gone through, where `closings` windows were closed: their frames, and the
+-- The number of them that were tried if `closings` windows were closed: their frames, and the
 -- event's own command, unless there was no memory for it.
 abbrev pub own_count : Option Refusal → ℕ
 own_count (Some OutOfMemory) = 0
@@ -172,7 +171,7 @@ handed_in_count event refused closings = closings
 abbrev pub with_closings : ℕ → Course → Course
 with_closings closings c = record c { shut = c.shut + closings }
 
--- a copy is accepted, where it wasn't refused
+-- a copy is accepted, if it wasn't refused
 abbrev pub after_copy : FrameCopy → Option Refusal → Course → Course
 after_copy copy None c = record c { arrivals = c.arrivals ++ arrival c.clock copy ∷ [] }
 after_copy copy (Some refusal) c = c
@@ -181,8 +180,8 @@ abbrev pub after_own_copy : Event → Option Refusal → Course → Course
 after_own_copy (events.Hear copy) refused c = after_copy copy refused c
 after_own_copy event refused c = c
 
--- the course after an event at this moment, whose own was refused so, or not, after `closings`
--- windows were closed
+-- the course after an event at this moment, with this refusal of the event itself, if any, after
+-- `closings` windows were closed
 abbrev pub after_event : Origin → Course → ℕ → Event → Option Refusal → ℕ → Course
 after_event origin c moment event refused closings =
     after_own_copy event refused
@@ -200,13 +199,13 @@ abbrev pub with_piece : Course → ℕ → List ℕ → Course
 with_piece c link bytes =
     record c { pieces = c.pieces ++ record { link = link; bytes = bytes } ∷ [] }
 
--- the course after a piece that was answered so
+-- the course after a piece with this answer
 abbrev pub after_piece : Origin → Course → ℕ → ℕ → List ℕ → Answer → Course
 after_piece origin c link moment bytes (answers.Turns turns fault) =
     after_events origin (with_piece c link bytes) moment turns.items
 after_piece origin c link moment bytes answer = c
 
--- the oldest commands that wait become a batch, `most` of them at most
+-- the oldest commands that wait become a batch, at most `most` of them
 abbrev pub after_take : Course → ℕ → Course
 after_take c most =
     record c {
@@ -219,14 +218,14 @@ abbrev pub after_give_up : Course → ℕ → Course
 after_give_up c most =
     record c { given_up = c.given_up ++ take most c.untaken; untaken = drop most c.untaken }
 
--- the course after a take that was answered so
+-- the course after a take with this answer
 abbrev pub after_answered_take : Course → ℕ → Answer → Course
 after_answered_take c most (answers.Taken n) = after_take c most
 after_answered_take c most (answers.GivenUp n) = after_give_up c most
 after_answered_take c most (answers.Refused OutOfStep) = after_give_up c most
 after_answered_take c most answer = c
 
--- a checkpoint of which this many device calls are left
+-- a checkpoint of which this number of device calls are left
 abbrev pub with_calls_left : ℕ → Checkpoint
 with_calls_left zero = NotUnderWay
 with_calls_left n = CallsLeft n
@@ -289,7 +288,7 @@ after_opening origin c seq =
 abbrev pub after_refused_opening : Course → Course
 after_refused_opening c = record c { emitted = length c.left; is_open = false }
 
--- the course after a step that was answered so
+-- the course after a step with this answer
 abbrev pub course_after : Origin → Course → Step → Answer → Course
 course_after origin c (steps.Event moment event) (answers.Turn turn closings) =
     after_event origin c moment event turn.refused closings

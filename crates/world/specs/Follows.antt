@@ -39,18 +39,18 @@ use Rattle.world.specs.Answers.{AreTurns}
 use Rattle.world.specs.Commits.{FitFlights, IsOn, checkpoint_in, flights_ahead, flights_last}
 use Rattle.world.specs.Commits.{flights_of, settled_ahead}
 
--- whatever a crash leaves of this disk holds the table and the number of commands that a crash may
--- leave
+-- each image that a crash may leave of this disk holds the table and the number of commands that a
+-- crash may leave
 abbrev pub Survives : Origin → Course → State → Type 0
 Survives origin c state =
     EveryImage state (λ image. (kept : List Command) × Leaves c kept
     × HoldsTable (table_from origin kept) (number_from origin kept) image)
 
--- those that left the log of the core
+-- those that were taken from the log of the core
 abbrev pub taken_commands : Course → List Command
 taken_commands c = c.settled ++ (in_flight c.flights ++ c.given_up)
 
--- a call of the batches behind the one that is ahead failed, or of the checkpoint
+-- a call of the batches after the one that is ahead failed, or of the checkpoint
 abbrev pub HasFailed : List (Flight Command) → Option Durable → Checkpoint → Type 0
 HasFailed [] None checkpoint = checkpoint ≡ CallFailed
 HasFailed (flight ∷ []) ahead checkpoint =
@@ -59,8 +59,8 @@ HasFailed (first ∷ second ∷ []) None checkpoint =
     (first.stage ≡ Unsure) × ((second.stage ≡ Stopped) × (checkpoint ≡ NotUnderWay))
 HasFailed flights ahead checkpoint = ⊥
 
--- the last commit is of the batches of the course behind the one that is ahead, whose decisions
--- were made of this table, or it is the course's checkpoint
+-- the last commit is of the batches of the course after the one that is ahead, whose decisions were
+-- made from this table, or it is the course's checkpoint
 abbrev pub IsAt : Option Durable → List (Flight Command) → Checkpoint → TableState → StoreState
     → LastCommit → Type 0
 IsAt ahead flights checkpoint t s commits.Failed = HasFailed flights ahead checkpoint
@@ -69,7 +69,7 @@ IsAt ahead flights checkpoint t s commit =
     × (FitFlights t (flights_last commit)
     × (IsOn s commit × (checkpoint ≡ checkpoint_in s commit)))
 
--- the commits are where a course says that has these commands settled
+-- the commits are in the state that a course says in which these commands are settled
 pub record AreAt (origin : Origin) (settled : List Command) (flights : List (Flight Command))
     (checkpoint : Checkpoint) (s : StoreState) (begun : Pipeline) : Type 0 where
   pub behind : List (Flight Command)
@@ -84,7 +84,7 @@ IsHealthy s commits.Failed = Unit {0}
 IsHealthy s commit = s.failed ≡ false
 
 -- The store has the table of what is on the disk, the core that of what was taken and of what
--- waits, and the commits are where the course says.
+-- waits, and the commits are in the state that the course says.
 pub record IsLife (origin : Origin) (c : Course) (s : StoreState) (core : DecisionsState)
     (begun : Pipeline) : Type 0 where
   pub table : s.table ≡ table_from origin (durable_in c.settled c.flights)
@@ -119,8 +119,8 @@ FollowsPlace state origin c (Open life) = (c.is_open ≡ true) × FollowsLife st
 FollowsPlace state origin c (Closed disk) = FollowsClosed state origin c disk
 FollowsPlace state origin c Crashing = ⊥
 
--- The world is where its course is. What has left over all lives is part of the effects of commands
--- that every crash leaves.
+-- The world is in the state that its course says. What has left over all lives is part of the
+-- effects of commands that every crash leaves.
 pub record Follows {D : Type 0} {g : _} (state : D → State) (origin : Origin) (c : Course)
     (world : World D g) : Type 0 where
   pub place : FollowsPlace state origin c world.place
@@ -137,7 +137,7 @@ MovesLife state old step answer new =
     → AnswersOpen origin c step answer
     × FollowsLife state origin (course_after origin c step answer) new
 
--- the same of a piece of a link's bytes
+-- the same for a piece of a link's bytes
 abbrev pub MovesPiece : {D : Type 0} {g : _} → (D → State) → Life D g → ℕ → ℕ → List ℕ → Answer
     → Life D g → Type 0
 MovesPiece state old link moment bytes answer new =
@@ -145,7 +145,7 @@ MovesPiece state old link moment bytes answer new =
     → AnswersPiece origin c link moment bytes answer
     × FollowsLife state origin (after_piece origin c link moment bytes answer) new
 
--- and of several events at one moment
+-- and for several events at one moment
 abbrev pub MovesThrough : {D : Type 0} {g : _} → (D → State) → Life D g → ℕ → List EventTurn
     → Life D g → Type 0
 MovesThrough state old moment turns new =
@@ -153,14 +153,14 @@ MovesThrough state old moment turns new =
     → AreTurns origin c moment turns
     × FollowsLife state origin (after_events origin c moment turns) new
 
--- the same of a world
+-- the same for a world
 abbrev pub Moves : {D : Type 0} {g : _} → (D → State) → World D g → Step → Answer → World D g
     → Type 0
 Moves state old step answer new =
     (origin : Origin) (c : Course) → Follows state origin c old
     → IsRight origin c step answer × Follows state origin (course_after origin c step answer) new
 
--- and of a run of steps
+-- and for a run of steps
 abbrev pub Runs : {D : Type 0} {g : _} → (D → State) → World D g → List Step → List Answer
     → World D g → Type 0
 Runs state old steps answers new =
@@ -186,7 +186,7 @@ IsLeft origin c table seq =
     (kept : List Command) × Leaves c kept × (table ≡ table_from origin kept)
     × (seq ≡ number_from origin kept)
 
--- an opening answered so, and led here
+-- an opening with this answer led here
 abbrev pub IsOpenedPlace : {D : Type 0} {g : _} → (D → State) → Origin → Course → Answer → Place D g
     → Type 0
 IsOpenedPlace state origin c answer place =
@@ -194,13 +194,13 @@ IsOpenedPlace state origin c answer place =
     × ((image : Image) → FollowsPlace state origin
     (course_after origin c (steps.Crash image) answer) place)
 
--- the same of a disk after a crash
+-- the same for a disk after a crash
 abbrev pub Reopens : {D : Type 0} {g : _} → (D → State) → D → Answer → Place D g → Type 0
 Reopens state disk answer place =
     (origin : Origin) (c : Course) → NothingOpen (state disk) → Survives origin c (state disk)
     → IsOpenedPlace state origin c answer place
 
--- and of a store that was opened
+-- and for a store that was opened
 abbrev pub IsBegunPlace : {D : Type 0} {g : _} → (D → State) → Store D g → Answer → Place D g
     → Type 0
 IsBegunPlace state store answer place =

@@ -1,4 +1,4 @@
--- What is said on the links of a life, and the events that it hands in.
+-- What is said on the links of a life, and the events that result.
 use Rattle.std.specs.Prelude.{◌≡◌, ◌≢◌, ◌⊎◌, ℕ, List, [], ◌∷◌, ◌++◌, Option, Some, None, nat_eq}
 use Rattle.std.specs.Prelude.{if◌then◌else◌}
 use Rattle.std.specs.BTreeMap.{get}
@@ -21,13 +21,13 @@ pub record Piece : Type 0 where
   pub link : ℕ
   pub bytes : List ℕ
 
--- all that came over a link, of these pieces
+-- all that came over a link, from these pieces
 abbrev pub stream_on : ℕ → List Piece → List ℕ
 stream_on link [] = []
 stream_on link (piece ∷ pieces) =
     if nat_eq piece.link link then piece.bytes ++ stream_on link pieces else stream_on link pieces
 
--- what a line asks for, of an application: the command of the request that it is, where it is one
+-- the command of the request of an application that a line is, if it is one
 abbrev pub AsksFor : Option Peer → List ℕ → Option Event → Type 0
 AsksFor (Some (Application application)) line (Some event) =
     (request : Request) × IsRequestInRange request × (line ≡ request_line request)
@@ -35,7 +35,7 @@ AsksFor (Some (Application application)) line (Some event) =
 AsksFor (Some (Application application)) line None = ¬ (IsRequestLine line)
 AsksFor peer line event = event ≡ None
 
--- the event that a message of this peer hands in, where it does
+-- the event of a message of this peer, if it has one
 abbrev pub HandsIn : Option Peer → Message → Option Event → Type 0
 HandsIn peer (Greeting greeted) event = event ≡ None
 HandsIn peer (Copy copy) event = event ≡ Some (events.Hear copy)
@@ -46,7 +46,7 @@ abbrev pub before_others : Option Event → List Event → List Event
 before_others None others = others
 before_others (Some event) others = event ∷ others
 
--- those that messages hand in, one after another
+-- those of messages, one after another
 abbrev pub AreHandedIn : Option Peer → List Message → List Event → Type 0
 AreHandedIn peer [] handed_in = handed_in ≡ []
 AreHandedIn peer (message ∷ messages) handed_in =
@@ -54,8 +54,8 @@ AreHandedIn peer (message ∷ messages) handed_in =
     × AreHandedIn (peer_after_one peer message) messages others
     × (handed_in ≡ before_others first others)
 
--- A piece behind what came over its link hands in these events, and has this fault behind them:
--- those of the messages that the link's bytes say with it and didn't say without it.
+-- A piece after what came over its link has these events, and this fault after them: those of the
+-- messages that the link's bytes say with it and didn't say without it.
 abbrev pub Completes : List ℕ → List ℕ → List Event → Option Refusal → Type 0
 Completes stream piece handed_in fault =
     (before : List Message) × (others : List Message) × (end : End) × (now : End)

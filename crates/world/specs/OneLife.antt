@@ -1,4 +1,4 @@
--- One life: from a new world on, no crash among the steps.
+-- One life: from a new world on, with no crash among the steps.
 use Rattle.std.specs.Prelude.{◌≡◌, ◌≤◌, List, [], ◌∷◌, length, take, map}
 use Rattle.devices.specs.declared.effect.Effect.{Effect}
 use Rattle.lw_types.specs.declared.refusal.Refusal.TheVariants.{OutOfStep}
@@ -16,13 +16,13 @@ HasNoCrash [] = Unit {0}
 HasNoCrash (steps.Crash image ∷ rest) = ⊥
 HasNoCrash (step ∷ rest) = HasNoCrash rest
 
--- no batch was lost for want of memory
+-- no batch was lost because memory ran out
 abbrev pub NoneGivenUp : List Answer → Type 0
 NoneGivenUp [] = Unit {0}
 NoneGivenUp (answers.GivenUp n ∷ rest) = ⊥
 NoneGivenUp (answer ∷ rest) = NoneGivenUp rest
 
--- no take or next was answered that its batch is out of step
+-- no take or next had the answer that its batch is out of step
 abbrev pub NoneOutOfStep : List Step → List Answer → Type 0
 NoneOutOfStep (steps.Take most ∷ rest) (answers.Refused OutOfStep ∷ others) = ⊥
 NoneOutOfStep (steps.Next most ∷ rest) (answers.Refused OutOfStep ∷ others) = ⊥
@@ -35,9 +35,9 @@ emissions [] = []
 emissions (answers.Emitted e ∷ rest) = e ∷ emissions rest
 emissions (answer ∷ rest) = emissions rest
 
--- What one life gave: these effects left, which are those of the commands whose batches were
--- released, in order and complete; of these a beginning was emitted; two batches at most are begun
--- and not released; and no batch was out of step, unless one before it was lost.
+-- What one life gave. These effects left, which are those of the commands whose batches were
+-- released, in order and complete. The first n of these were emitted, for some n. At most two
+-- batches are begun and not released. No batch was out of step, unless one was lost.
 pub record IsOneLife (origin : Origin) (c : Course) (effects : List Effect) (steps : List Step)
     (told : List Answer) : Type 0 where
   pub left : c.left ≡ effects

@@ -12,14 +12,14 @@ use Rattle.world.specs.declared.place.Place.{Place}
 use Rattle.world.specs.declared.place.Place.TheVariants.{Open, Closed, Crashing}
 use Rattle.world.specs.declared.world.World.{World}
 
--- what is under way is the store's, and a batch is ahead of one alone
+-- what is under way is the store's, and a batch is ahead of only one
 abbrev pub IsSoundLife : {D : Type 0} {g : _} → (D → State) → Life D g → Type 0
 IsSoundLife state life =
     MayGoOn (store_state state life.store) life.commits.last
     × IsBehind life.commits.ahead life.commits.last
 
--- there is room among the released effects for those of each batch that is begun: so many are
--- there, and so many fit
+-- there is room among the released effects for those of each batch that is begun; the numbers given
+-- are those released and those for which there is room
 abbrev pub HasRoomForEach : List (Flight Decision) → ℕ → ℕ → Type 0
 HasRoomForEach [] there fit = Unit {0}
 HasRoomForEach (flight ∷ flights) there fit = there + MOST_EFFECTS * length (flight ∷ flights) ≤ fit

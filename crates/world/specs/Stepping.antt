@@ -8,10 +8,10 @@ use Rattle.world.specs.declared.answer.Answer.{Answer}
 use Rattle.world.specs.declared.step.Step.{Step}
 use Rattle.world.specs.declared.world.World.{World}
 
--- A world makes a step, which is answered so, and is that world then: whatever course it follows,
--- the answer is right and it goes on following; whatever was known of the calls of its disk, the
--- answer is as foretold; the answer tells of the journal's room; and a crash leaves the image that
--- it names.
+-- A world makes a step with this answer, and is that world then. For each course that it follows,
+-- the answer is right and it goes on following; for everything known of the calls of its disk, the
+-- answer is as foretold; the answer is right about the journal's room; and a crash leaves the image
+-- that it names.
 pub record MakesStep {D : Type 0} (disk : Ghosts D) (old : World D disk) (step : Step)
     (answer : Answer) (new : World D disk) : Type 0 where
   pub moves : Moves disk.state old step answer new

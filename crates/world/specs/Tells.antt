@@ -1,5 +1,5 @@
--- What a step's answer tells of the disk: a full journal only where it is, how long a checkpoint
--- takes, and a crash leaves the image that it names.
+-- What a step's answer says of the disk: a full journal only if it is full, how many calls a
+-- checkpoint takes, and that a crash leaves the image that it names.
 use Rattle.std.specs.Prelude.{◌≡◌, ◌<◌, ◌≤◌, ℕ, List, Result, Ok, Err, if◌then◌else◌}
 use Rattle.lw_types.specs.declared.refusal.Refusal.{Refusal}
 use Rattle.lw_types.specs.declared.refusal.Refusal.TheVariants as refusals
@@ -22,14 +22,15 @@ use Rattle.world.specs.declared.answer.Answer.TheVariants as answers
 use Rattle.world.specs.declared.step.Step.{Step}
 use Rattle.world.specs.declared.step.Step.TheVariants as steps
 
--- what is told of so many decisions that were taken, by what the store answered to their batch
+-- the answer for this number of decisions that were taken, by what the store returned for their
+-- batch
 abbrev pub told_by : Result Begun Refusal → ℕ → Answer
 told_by (Ok begun) count = answers.Taken count
 told_by (Err refusals.OutOfStep) count = answers.Refused refusals.OutOfStep
 told_by (Err e) count = answers.GivenUp count
 
--- A batch is taken only where the journal has room for the largest one, and full is answered only
--- where it hasn't.
+-- A batch is taken only if the journal has room for the largest one, and full is returned only if
+-- it hasn't.
 abbrev pub RefusalTells : Type 0 → Refusal → Type 0
 RefusalTells roomy refusals.OutOfStep = roomy
 RefusalTells roomy refusals.OutOfMemory = roomy
@@ -42,14 +43,14 @@ TakeTells roomy (answers.GivenUp n) = roomy
 TakeTells roomy (answers.Refused e) = RefusalTells roomy e
 TakeTells roomy answer = Unit {0}
 
--- behind a batch that is begun, it is the room behind that
+-- after a batch that is begun, it is the room after that
 abbrev pub NextTells : StoreState → Pipeline → Answer → Type 0
 NextTells s commits answer =
     (opened : GateWritten) (room : Room) → commits ≡ at_gate opened room
     → TakeTells (IsRoomyBehind s opened) answer
 
--- A checkpoint takes two more calls where the other area's gate is open, and is refused as damaged
--- exactly where the live area has the last generation.
+-- A checkpoint takes two more calls if the other area's gate is open, and is refused as damaged
+-- exactly if the live area has the last generation.
 abbrev pub CheckpointTells : StoreState → Answer → Type 0
 CheckpointTells s (answers.Begun calls) =
     (s.log.generation < LAST_GENERATION) × (calls ≡ (if s.log.other_open then 6 else 4))
@@ -69,13 +70,14 @@ PlaceTellsRoom state (Open life) step answer =
 PlaceTellsRoom state (Closed disk) step answer = Unit {0}
 PlaceTellsRoom state Crashing step answer = Unit {0}
 
--- A store was opened of these bytes, or its opening was refused: nothing was written but where the
--- records are of an older version, and whatever table was there, each crash leaves.
+-- A store was opened from these bytes, or its opening was refused. The content changed only if the
+-- records are of an older version, and each image that a crash may leave holds the table that the
+-- bytes hold, if any.
 pub record IsOpenedFrom (left : List ℕ) (now : State) : Type 0 where
   pub same : ¬ (IsOld left) → now.content ≡ left
   pub keeps : StillHolds left now
 
--- the disk of a world has crashed to this image, and a store was opened of what was left
+-- the disk of a world has crashed to this image, and a store was opened from what was left
 abbrev pub CrashesTo : {D : Type 0} {g : _} → (D → State) → Image → Place D g → Place D g → Type 0
 CrashesTo {D} state image old new =
     (before now : D) → HasDisk old before → HasDisk new now

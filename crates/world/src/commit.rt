@@ -10,21 +10,21 @@ use lw_types::Refusal;
 use std::mem;
 use store::{Called, GateWritten, UnderWay};
 
-/// How far the commit of the batch that was taken last is, or a checkpoint.
+/// The state of the commit of the batch that was taken last, or of a checkpoint.
 pub(crate) enum LastCommit {
-    /// Nothing is on its way.
+    /// Nothing is under way.
     Idle,
-    /// A device call failed: nothing is committed before the store is opened again.
+    /// A device call failed: nothing is committed until the store is opened again.
     Failed,
-    /// Device calls are to be made. A batch has the room for its effects with it.
+    /// Device calls have to be made. A batch comes with the room for its effects.
     UnderWay(UnderWay<Room>),
     /// The batch is durable, and its effects may leave.
     Durable(Durable),
 }
 
-/// What a life has begun and not released, two batches at most.
+/// What a life has begun and not released: at most two batches.
 pub(crate) struct Pipeline {
-    /// The batch in front of the last one, which is durable.
+    /// The batch before the last one. It is durable.
     pub(crate) ahead: Option<Durable>,
     pub(crate) last: LastCommit,
 }
@@ -40,7 +40,7 @@ impl Pipeline {
         }
     }
 
-    /// What is answered where no batch is taken and no checkpoint begins, since a device call has
+    /// What is returned if no batch is taken and no checkpoint begins, since a device call has
     /// failed or something is begun and not released.
     pub(crate) fn hindrance(&self) -> Option<Answer>
         ensures { MatchOption result (self.now ≡ at_rest) (Hinders self.now) }
@@ -52,8 +52,8 @@ impl Pipeline {
         }
     }
 
-    /// Goes on with what a device call of the last commit led to: a batch behind which another one
-    /// is under way is ahead of that.
+    /// Continues with what a device call of the last commit led to. A batch after which another one
+    /// is under way is put ahead of that one.
     pub(crate) fn go_on(&mut self, called: Called<Room>)
         requires { IsAlone self.old.ahead called }
         ensures { GoesOn self.old.ahead called self.new }
@@ -74,7 +74,7 @@ impl Pipeline {
         }
     }
 
-    // Puts a batch ahead, where none is.
+    // Puts a batch ahead, if none is there.
     fn put_ahead(&mut self, durable: Durable)
         requires { self.old.ahead ≡ None }
         ensures ahead { self.new.ahead ≡ Some durable }
@@ -89,7 +89,7 @@ impl Pipeline {
         }
     }
 
-    /// Takes a batch out, with its room, whose gate is written and not synced, where no other is
+    /// Takes out a batch, with its room, whose gate is written and not synced, if no other batch is
     /// begun.
     pub(crate) fn take_gate(&mut self) -> Option<(GateWritten, Room)>
         ensures { MatchOption result (HasNoGate self.old self.new)
@@ -113,7 +113,7 @@ impl Pipeline {
         }
     }
 
-    /// Takes the oldest batch out where it is durable.
+    /// Takes out the oldest batch if it is durable.
     pub(crate) fn take_oldest(&mut self) -> Option<Durable>
         ensures { MatchOption result (KeepsAll self.old self.new)
             (λ durable. GivesOldest self.old durable self.new) }
@@ -138,7 +138,7 @@ impl Pipeline {
         mem::replace(&mut self.last, commit).lose();
     }
 
-    /// Lets all that is begun go, at a crash.
+    /// Drops everything that is begun, at a crash.
     pub(crate) fn lose(self) {
         let Pipeline { ahead, last } = self;
         if let Some(durable) = ahead {

@@ -7,8 +7,8 @@ use lw_types::FrameCopy;
 pub enum Event {
     /// A gateway's copy of a frame.
     Hear(FrameCopy),
-    /// Nothing but the moment.
+    /// Only the moment.
     Tick,
-    /// A command: what an application asks for, or a frame with all its copies.
+    /// A command: an application's request, or a frame with all its copies.
     Ask(Command),
 }

@@ -1,4 +1,4 @@
-//! What follows from the definitions of a course alone. The functions do nothing: their contracts
+//! What follows from the definitions of a course alone. These functions do nothing: their contracts
 //! are the laws.
 ghost use Rattle.std.specs.Prelude.{◌≡◌, List, length, take};
 ghost use Rattle.devices.specs.declared.command.Command.{Command};
@@ -8,8 +8,8 @@ ghost use Rattle.world.specs.Course.{Origin, Course, decided_commands, effects_f
 ghost use Rattle.world.specs.Folding.{RunLaws};
 ghost use Rattle.sessions.specs.Marks.{IsSubsequence};
 
-/// What a crash leaves is a beginning of the decided commands, and holds all that is settled. So it
-/// has every command of which an effect has left.
+/// A crash leaves the first n decided commands, for some n, and all that is settled is among them.
+/// So it leaves every command of which an effect has left.
 pub fn what_a_crash_leaves()
     ensures beginning { (c : Course) (kept : List Command) → Leaves c kept
         → take (length kept) (decided_commands c) ≡ kept }
@@ -23,7 +23,7 @@ pub fn what_a_crash_leaves()
     of_runs();
 }
 
-/// What holds of every run of commands, and of the decisions that carry it out.
+/// What holds for every run of commands, and for the decisions that carry it out.
 pub(crate) fn of_runs()
     ensures { RunLaws }
 {

@@ -1,5 +1,5 @@
-//! A store, the core that decides on its table, and the effects that left: everything but the lines
-//! in which it is stated.
+//! A store, the core that decides on its table, and the effects that have left. The text lines in
+//! which this is printed are in another crate.
 #![tactic(auto)]
 
 mod answer;

@@ -68,7 +68,7 @@ impl<D: Sim> Life<D> {
         }
     }
 
-    /// One step, other than to emit or to crash.
+    /// One step other than to emit or to crash.
     pub(crate) fn step(
         &mut self,
         alloc: Global,
@@ -110,8 +110,8 @@ impl<D: Sim> Life<D> {
         }
     }
 
-    /// The flusher takes a batch and begins its commit. `Full` comes only where the journal has no
-    /// room for the largest batch.
+    /// The flusher takes a batch and begins its commit. `Full` is returned only if the journal has
+    /// no room for the largest batch.
     pub(crate) fn take(&mut self, alloc: Global, most: Most, released: &mut Vec<Released>) -> Answer
         requires sound { IsSoundLife D.state self.old }
         requires room { HasRoom self.old.commits (length released.old.items)
@@ -184,9 +184,9 @@ impl<D: Sim> Life<D> {
         }
     }
 
-    /// The flusher takes a batch and begins its commit behind the one that is begun, alone, while
-    /// its gate is written and not synced; in any other state it is `Idle`. `Full` comes only where
-    /// the journal has no room for the largest batch behind that one.
+    /// The flusher takes a batch and begins its commit after the one that is begun, if that is the
+    /// only one and its gate is written and not synced. In any other state `Idle` is returned.
+    /// `Full` is returned only if the journal has no room for the largest batch after that one.
     pub(crate) fn next(&mut self, alloc: Global, most: Most, released: &mut Vec<Released>) -> Answer
         requires sound { IsSoundLife D.state self.old }
         requires room { HasRoom self.old.commits (length released.old.items)
@@ -210,7 +210,7 @@ impl<D: Sim> Life<D> {
         }
     }
 
-    // Takes a batch and begins its commit behind this one.
+    // Takes a batch and begins its commit after this one.
     fn follow(
         &mut self,
         alloc: Global,
@@ -375,7 +375,7 @@ impl<D: Sim> Life<D> {
         }
     }
 
-    /// Ends the life: what is under way is lost, and the disk comes back.
+    /// Ends the life: what is under way is lost, and the disk is returned.
     pub(crate) fn end(self) -> D
         ensures { result ≡ disk_of self.store }
     {
@@ -390,8 +390,8 @@ impl<D: Sim> Life<D> {
     }
 }
 
-// Takes a batch. The room for its effects is got first, beside those of another batch, so that
-// nothing is taken for want of it.
+// Takes a batch. The room for its effects is allocated first, in addition to that of another batch,
+// so nothing is taken and then lost for lack of that room.
 fn next_batch(
     alloc: Global,
     core: &mut Core,
@@ -415,7 +415,8 @@ fn next_batch(
     Ok((batch, room))
 }
 
-// What is told of so many decisions that were taken, by what the store answered to their batch.
+// The answer for this number of decisions that were taken, by what the store returned for their
+// batch.
 fn batch_answer(begun: &Result<Begun, Refusal>, count: usize) -> Answer
     ensures { result ≡ told_by begun.now count }
 {
@@ -426,7 +427,7 @@ fn batch_answer(begun: &Result<Begun, Refusal>, count: usize) -> Answer
     }
 }
 
-// Adds effects behind others.
+// Appends effects to others.
 fn add(effects: Vec<Released>, released: &mut Vec<Released>)
     requires { length released.old.items + length effects.items ≤ vec_capacity released.old }
     ensures items { released.new.items ≡ released.old.items ++ effects.items }

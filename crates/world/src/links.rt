@@ -1,4 +1,4 @@
-// The links of a life, and the events that what is said on them hands in.
+// The links of a life, and the events that result from what is said on them.
 ghost use Rattle.std.specs.Prelude.{◌≡◌, ◌≢◌, ◌≤◌, ◌++◌, ◌⊎◌, ◌↔◌, ℕ, Some, None, [], length};
 ghost use Rattle.std.specs.Prelude.{vec_capacity, IfOk, IfErr, IsSome, IsTrue, OnErr, MatchResult};
 ghost use Rattle.lw_types.specs.declared.refusal.Refusal.TheVariants.{OutOfMemory};
@@ -23,7 +23,7 @@ pub(crate) struct Links {
     feeders: BTreeMap<u64, Feeder>,
 }
 
-/// The events that a piece hands in, the fault behind them, and room for their turns.
+/// The events of a piece, the fault after them, and room for their turns.
 #[derive(Drop)]
 pub(crate) struct HandedIn {
     pub(crate) events: Vec<Event>,
@@ -42,7 +42,7 @@ impl Links {
         }
     }
 
-    /// These bytes come on this link. A refusal leaves what the links have said.
+    /// Adds the bytes that arrive on this link. A refusal leaves what the links have said.
     pub(crate) fn say(&mut self, link: u64, piece: &[u8]) -> Result<HandedIn, Refusal>
         ensures said { IfOk result (λ r. SaysMore self.old link piece.now self.new r.events.items
             r.fault) }
@@ -102,9 +102,9 @@ impl Links {
     }
 }
 
-/// The events that messages of a link hand in, whose peer this is before them: each copy, and the
-/// command of each line that is a request of an application. Refused with `OutOfMemory` alone, and
-/// only where a copy or a request is among them.
+/// The events of messages of a link, which had this peer before them: each copy, and the command of
+/// each line that is a request of an application. Refused only with `OutOfMemory`, and only if a
+/// copy or a request is among them.
 pub fn events_of(
     alloc: Global,
     peer: Option<Peer>,
@@ -136,8 +136,8 @@ fn add(events: &mut Vec<Event>, event: Option<Event>) -> Result<(), Refusal>
     Ok(())
 }
 
-// The event that a message hands in, where it does: a greeting doesn't, but tells who speaks; nor
-// does a line that is no request. For neither memory is wanted.
+// The event of a message, if it has one. A greeting has none, but names the peer; a line that is no
+// request has none either. Neither needs memory.
 fn event_of(
     alloc: Global,
     speaker: &mut Option<Peer>,
@@ -167,7 +167,7 @@ fn asked(alloc: Global, speaker: &Option<Peer>, line: &Line) -> Result<Option<Ev
     }
 }
 
-// The command of the request that a line of this application is, where it is one.
+// The command of the request that a line of this application is, if it is one.
 fn request_of(
     alloc: Global,
     application: Application,

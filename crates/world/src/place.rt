@@ -10,9 +10,9 @@ use store::Store;
 pub(crate) enum Place<D: Sim> {
     /// In a store that is open.
     Open(Life<D>),
-    /// Out of any store, since the last opening was refused.
+    /// Outside of any store, since the last opening was refused.
     Closed(D),
-    /// Within a crash, out of the store. It is never seen outside of one.
+    /// Inside a crash, outside of the store. This state is never seen from outside.
     Crashing,
 }
 
@@ -60,7 +60,7 @@ impl<D: Sim> Place<D> {
         }
     }
 
-    /// Ends what is there, and gives the disk back.
+    /// Ends what exists, and returns the disk.
     pub(crate) fn end(self) -> D
         requires { IsSomewhere self }
         ensures { HasDisk self result }

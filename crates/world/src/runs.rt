@@ -14,19 +14,26 @@ use disk::Sim;
 use lw_types::Refusal;
 use std::alloc::Global;
 
-/// Takes the steps one after another, and gives the answer to each. Refused with `OutOfMemory`
-/// before the first step, and then nothing was done.
+/// Takes the steps one after another, and returns the answer to each. Refused with `OutOfMemory`
+/// before the first step; then nothing was done.
 ///
-/// Each answer is the right one in the course that the steps and the answers make, and the world
-/// follows that course (`course`): what was released are the effects of the decided commands, in
-/// order and complete (`one_life`), and after a crash the store has the fold of a beginning of
-/// them, which holds every command of which an effect has left. What the coming calls of the disk
-/// will answer is known step by step (`calls`): one that is armed is refused as `DeviceFailed`, and
-/// one that isn't never is. Each step leads from the world that the one before left (`steps`): a
-/// take is answered `Full` only where the journal has no room for the largest batch, a checkpoint
-/// has as many calls as the other area's gate wants, and a crash leaves the image that it names. A
-/// step costs by what it touches: only a list, a crash, and the take after one that was refused
-/// cost by the number of devices, and a crash by the journal's bytes.
+/// - Each answer is right in the course that the steps and the answers make, and the world follows
+///   that course (`course`).
+/// - If the world is at its beginning and no step is a crash, what was released are the effects of
+///   the commands whose batches were released, in order and complete (`one_life`).
+/// - After a crash the store has the fold of the first n decided commands, for some n, and every
+///   command of which an effect has left is among these.
+/// - What the coming calls of the disk will return is known step by step (`calls`): one that is
+///   armed is refused as `DeviceFailed`, and one that isn't never is. If a failure is armed for a
+///   later call than an opening's first, nothing is known of that opening and of the calls after
+///   it.
+/// - Each step leads on from the world that the one before left (`steps`). A take is answered
+///   `Full` only if the journal has no room for the largest batch. A checkpoint has the number of
+///   calls that the state of the other area's gate requires. A crash leaves the image that it
+///   names.
+///
+/// The cost of a step grows with what it touches. Only a list, a crash, and the take after one that
+/// was refused cost by the number of devices, and a crash also by the journal's bytes.
 pub fn run<D: Sim + Drop>(
     world: &mut World<D>,
     alloc: Global,

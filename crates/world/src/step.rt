@@ -1,27 +1,28 @@
-// What a world is asked to do.
+// What a world can be asked to do.
 use crate::Event;
 use disk::Image;
 use session_core::{Moment, Most};
 
-/// One step of a world. A crash falls between two steps, since no step makes more than one device
-/// call but a crash itself, which opens the store.
+/// One step of a world. Crashes happen between two steps: no step makes more than one device call,
+/// except a crash itself, which opens the store.
 #[derive(PartialEq, Eq, Drop)]
 pub enum Step {
-    /// This comes at this moment.
+    /// This event arrives at this moment.
     Event {
         moment: Moment,
         event: Event,
     },
-    /// The next bytes on the link of this number come at this moment, in pieces of any length.
+    /// The next bytes on the link of this number arrive at this moment, in pieces of any length.
     Piece {
         link: u64,
         moment: Moment,
         bytes: Vec<u8>,
     },
-    /// The flusher takes the oldest decisions, this many at most, and begins their commit.
+    /// The flusher takes the oldest decisions, at most this number, and begins their commit.
     Take(Most),
-    /// The flusher takes the oldest decisions, this many at most, and begins their commit behind
-    /// the batch under way, whose gate is written and not synced, so that both share a sync.
+    /// The flusher takes the oldest decisions, at most this number, and begins their commit after
+    /// the batch under way. The gate of that one is written and not synced, so the two share a
+    /// sync.
     Next(Most),
     /// The flusher begins a checkpoint, which makes room in the journal.
     Checkpoint,
@@ -33,7 +34,7 @@ pub enum Step {
     Release,
     /// The oldest released effect leaves.
     Emit,
-    /// The table as it is now is looked at.
+    /// Reads the table as it is now.
     List,
     /// The disk crashes to this image, and the store is opened again.
     Crash(Image),

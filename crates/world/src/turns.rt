@@ -35,7 +35,7 @@ impl<D: Sim> Life<D> {
         }
     }
 
-    // A copy of a frame comes. Where it can't be kept for want of memory, it is refused.
+    // A copy of a frame comes. If memory runs out and it can't be kept, it is refused.
     fn hear(&mut self, moment: Moment, copy: &FrameCopy) -> (Turn, usize)
         requires { IsSoundLife D.state self.old }
         ensures sound { IsSoundLife D.state self.new }
@@ -73,7 +73,7 @@ impl<D: Sim> Life<D> {
         self.told(turn)
     }
 
-    // A command comes. Where it can't be copied for want of memory, it is refused.
+    // A command comes. If memory runs out and it can't be copied, it is refused.
     fn ask(&mut self, moment: Moment, command: &Command) -> (Turn, usize)
         requires { IsSoundLife D.state self.old }
         ensures sound { IsSoundLife D.state self.new }
@@ -96,15 +96,15 @@ impl<D: Sim> Life<D> {
         }
     }
 
-    // The turn of an event, and how many windows it closed.
+    // The turn of an event, and the number of windows that it closed.
     fn told(&self, turn: Turn) -> (Turn, usize)
         ensures { result ≡ (turn, self.now.core.closings) }
     {
         (turn, self.core.closings())
     }
 
-    /// A piece of a link's bytes comes: the events that it hands in, one after another. Where there
-    /// is no memory for it, nothing of it counts.
+    /// A piece of a link's bytes comes: its events, one after another. If there is no memory for
+    /// it, nothing of it counts.
     pub(crate) fn piece(&mut self, link: u64, moment: Moment, bytes: &[u8]) -> Answer
         requires { IsSoundLife D.state self.old }
         ensures sound { IsSoundLife D.state self.new }
@@ -129,8 +129,7 @@ impl<D: Sim> Life<D> {
         }
     }
 
-    // Events come at this moment, one after another, and their turns are answered in the room for
-    // them.
+    // Events come at this moment, one after another. Their turns are put into the room for them.
     fn go_through(
         &mut self,
         moment: Moment,

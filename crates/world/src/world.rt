@@ -18,7 +18,7 @@ pub struct World<D: Sim> {
     pub(crate) place: Place<D>,
     /// The effects released over all lives, in order.
     pub(crate) released: Vec<Released>,
-    /// How many of them were emitted, or lost at a crash.
+    /// The number of them that were emitted, or lost at a crash.
     pub(crate) emitted: usize,
 }
 
@@ -63,10 +63,11 @@ impl<D: Sim + Drop> World<D> {
         }
     }
 
-    /// A world with the store that this disk holds, in records of whatever version. Its course
-    /// begins with the table and the number that are held, whatever marks were used up before.
-    /// Refused as [`store::open_back`] is, and with `OutOfMemory`; then the disk comes back, and
-    /// whatever a crash leaves of it holds what one might have left of it before.
+    /// A world with the store that this disk holds, in records of any version. Its course begins
+    /// with the table and the number that are held, and with any marks that were used up before.
+    /// Refused as [`store::open_back`] is, and with `OutOfMemory`. Then the disk is returned, and
+    /// each image that a crash may leave of it holds the tables of some image that a crash might
+    /// have left of the disk before.
     pub fn adopt(alloc: Global, disk: D) -> Result<Self, (D, Refusal)>
         ensures sound { IfOk result (IsSoundWorld D.state) }
         ensures holds { IfOk result (λ _. (t : TableState) × ((seq : ℕ)
@@ -127,13 +128,14 @@ impl<D: Sim + Drop> World<D> {
         }
     }
 
-    /// Takes one step, and gives its answer. Whatever course the world has followed, the answer is
-    /// right in it, and the world goes on following it (`course`). A call of the disk fails where
-    /// that is due, and nowhere else (`calls`). `Full` comes only where the journal has no room for
-    /// the largest batch, and a batch is taken only where it has; a checkpoint has as many calls as
-    /// the other area's gate wants, and is refused as `Damaged` exactly at the last generation
-    /// (`room_told`). A crash leaves the image that it names (`crashed`). A step is never refused
-    /// as a whole: where its answer is `OutOfMemory` it did what the course says of that answer.
+    /// Takes one step, and returns its answer. Whatever course the world has followed, the answer
+    /// is right in it, and the world goes on following it (`course`). A call of the disk fails if
+    /// that is due, and at no other time (`calls`). `Full` is returned only if the journal has no
+    /// room for the largest batch, and a batch is taken only if it has. A checkpoint has the number
+    /// of calls that the state of the other area's gate requires, and is refused as `Damaged`
+    /// exactly at the last generation (`room_told`). A crash leaves the image that it names
+    /// (`crashed`). A step is never refused as a whole: if its answer is `OutOfMemory`, it did what
+    /// the course says of that answer.
     pub fn step(&mut self, alloc: Global, step: &Step) -> Answer
         requires { IsSoundWorld D.state self.old }
         ensures sound { IsSoundWorld D.state self.new }
@@ -207,9 +209,10 @@ impl<D: Sim + Drop> World<D> {
         }
     }
 
-    /// Ends the world: what is under way is lost, and the disk comes back with the effects that
-    /// were released over all lives, in order. Whatever a crash leaves of that disk holds the fold
-    /// of a beginning of the decided commands, with every one of which an effect has left.
+    /// Ends the world: what is under way is lost. Returns the disk, with the effects that were
+    /// released over all lives, in order. Each image that a crash may leave of that disk holds the
+    /// fold of the first n decided commands, for some n, and every command of which an effect has
+    /// left is among these.
     pub fn close(self) -> (D, Vec<Released>)
         requires { IsSoundWorld D.state self }
         ensures disk { HasDisk self.place result.0 }

@@ -1,4 +1,4 @@
-// Worlds that begin with the store of a world before.
+// Worlds that begin with the store of an earlier world.
 use crate::answers::tell;
 use crate::rows::add_line;
 use disk::{Image, MemDisk};
@@ -18,7 +18,7 @@ pub(crate) fn steps_of(alloc: Global, letters: &str) -> Result<Vec<Step>, Refusa
     Ok(steps)
 }
 
-/// The disk that a new world leaves behind these letters.
+/// The disk that a new world leaves after these letters.
 pub(crate) fn left(alloc: Global, letters: &str) -> Result<MemDisk, Refusal> {
     let steps = steps_of(alloc, letters)?;
     let mut world = World::format(alloc, new_disk(alloc, SLOTS)?, net_id()?, SLOTS)?;
@@ -28,7 +28,7 @@ pub(crate) fn left(alloc: Global, letters: &str) -> Result<MemDisk, Refusal> {
     Ok(disk)
 }
 
-// What a world answers to these letters that has adopted a disk.
+// The answers to these letters of a world that has adopted a disk.
 fn answers_behind(alloc: Global, disk: MemDisk, letters: &str) -> Result<Vec<Answer>, Refusal> {
     let steps = steps_of(alloc, letters)?;
     let mut world = match World::adopt(alloc, disk) {
@@ -40,9 +40,9 @@ fn answers_behind(alloc: Global, disk: MemDisk, letters: &str) -> Result<Vec<Ans
     answers
 }
 
-// Letters of a world, those of one that adopts its disk, and what the last answer tells: whose
-// DevNonce was seen last at slot 0, and the number. The device that joins does so once by each of
-// its requests, whichever world hears it.
+// Letters of a world, those of one that adopts its disk, and what the last answer says: the last
+// DevNonce that was seen of the device at slot 0, and the number. The device that joins does so
+// once by each of its requests, in any of the worlds.
 const ADOPTED: &str = "\
 - l -> listed nobody 0
 aTccccr l -> listed - 1
@@ -56,7 +56,7 @@ JTccccr1Tccccree 12l -> listed 2 3
 JTccccr1Tccccree 2Tccccrpccccol -> listed 2 3
 ";
 
-// Whether a world that adopts a disk tells this in its last answer to the letters.
+// Whether the last answer to these letters of a world that adopts a disk says this.
 fn tells_so(alloc: Global, disk: MemDisk, letters: &str, told: &str) -> Result<bool, Refusal> {
     let answers = answers_behind(alloc, disk, letters)?;
     let (mut came, mut due) = (Vec::new(alloc), Vec::new(alloc));
@@ -96,7 +96,7 @@ pub(crate) fn old_disk(alloc: Global) -> Result<MemDisk, Refusal> {
     disk_of(alloc, bytes)
 }
 
-// What a list behind the letters tells, of a world that adopts that disk.
+// What a list after the letters says, for a world that adopts that disk.
 const TAKEN_OVER: &[(&str, &str)] = &[
     ("l", "listed - 1"),
     ("ol", "listed - 1"),
@@ -119,7 +119,7 @@ fn a_world_goes_on_with_the_store_of_an_older_program(rt: HostRuntime) {
     }
 }
 
-// What a disk that holds no store is refused, and whether it comes back as it was.
+// The refusal of a disk that holds no store, and whether it is returned as it was.
 fn refused(alloc: Global) -> Result<(Refusal, bool), Refusal> {
     let bytes = vec![in alloc; 0; 1000]?;
     match World::adopt(alloc, MemDisk::new(alloc, bytes)?) {
@@ -136,7 +136,7 @@ fn a_disk_that_holds_no_store_comes_back(rt: HostRuntime) {
     assert_eq!(rt; refused(rt.alloc()), Ok((Refusal::NotFormatted, true)));
 }
 
-// The steps that are answered, and the devices and the number behind a crash, of a world that has
+// The steps that are answered, and the devices and the number after a crash, of a world that has
 // adopted the disk of another.
 fn found_after(
     alloc: Global,

@@ -1,12 +1,12 @@
-// Answers, by what rows of tests tell of them.
+// Answers, in the form in which rows of tests give them.
 use devices::Device;
 use lw_types::Refusal;
 use session_core::Turn;
 use std::io::{self, Write};
 use world::{Answer, Event, EventTurn};
 
-// The letter of an event that a piece hands in: `h` for a copy, `a` for a command, in capitals
-// where it is refused.
+// The letter of an event of a piece: `h` for a copy, `a` for a command, in capitals if it is
+// refused.
 fn letter_of(turn: &EventTurn) -> char {
     match (&turn.event, turn.turn.refused) {
         (Event::Hear(_), None) => 'h',
@@ -44,10 +44,11 @@ fn tell_list(out: &mut Vec<u8>, devices: &[Device], seq: u64) -> io::Result<()> 
     }
 }
 
-/// Adds the line of what rows tell of an answer: `idle`; a turn's decisions before and after it,
-/// the number of its refusal or 0, and how many windows were closed; the number of the fault behind
-/// a piece, or 0, and a letter for each of its events; how many devices were opened, and the
-/// number; or the DevNonce that was seen last of the device at slot 0, and the number.
+/// Appends the line that rows give for an answer: `idle`; a turn's decisions before and after it,
+/// the number of its refusal or 0, and the number of windows that were closed; the number of the
+/// fault after a piece, or 0, and a letter for each of its events; the number of devices of an
+/// opened store, and its number; or the last DevNonce that was seen of the device at slot 0, and
+/// the number.
 pub(crate) fn tell(out: &mut Vec<u8>, answer: &Answer) -> io::Result<()> {
     match answer {
         Answer::Idle => writeln!(out, "idle"),

@@ -16,11 +16,11 @@ enum Left {
     ClosedGates,
 }
 
-// Five devices are provisioned, and their batch goes as far as these letters; then comes the crash.
-// So many devices are there afterwards.
+// Five devices are provisioned, and their batch goes as far as these letters; then the crash comes.
+// After it this number of devices exist.
 type Crash = (&'static str, Left, usize);
 
-// The batch's gate is the byte at 62, behind the superblock and the header of the first area. It is
+// The batch's gate is the byte at 62, after the superblock and the header of the first area. It is
 // written by the third call and synced by the fourth.
 const CRASHES: &[Crash] = &[
     ("T", Left::New, 0),
@@ -55,7 +55,8 @@ fn steps_to(alloc: Global, letters: &str) -> Result<Vec<Step>, Refusal> {
     Ok(steps)
 }
 
-// How many steps were answered, and the devices and the number of the store that is opened.
+// The number of steps that were answered, and the devices and the number of the store that is
+// opened.
 fn found_after(alloc: Global, letters: &str, left: Left) -> Result<(usize, usize, u64), Refusal> {
     let steps = steps_to(alloc, letters)?;
     let disk = new_disk(alloc, 8)?;

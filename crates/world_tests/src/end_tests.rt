@@ -1,4 +1,4 @@
-// The end of a world: what comes back where it is closed, and behind a crash.
+// The end of a world: what is returned if it is closed, and after a crash.
 use disk::MemDisk;
 use lw_types::Refusal;
 use plain_world::letters::add_letters;
@@ -34,7 +34,7 @@ const ENDS: &[(&str, usize, usize, u64)] = &[
     ("aTccccrbTcccno", 1, 2, 2),
 ];
 
-// What comes behind the crash that the last letter is. The step before it is taken alone.
+// What is returned after the crash that the last letter is. The step before it is taken alone.
 fn end_of(alloc: Global, letters: &str) -> Result<(usize, usize, u64), Refusal> {
     let mut steps = steps_of(alloc, letters)?;
     let Some(Step::Crash(image)) = steps.pop() else {
@@ -62,7 +62,7 @@ fn what_had_left_comes_back_with_the_store(rt: HostRuntime) {
     assert_eq!(rt; end_of(rt.alloc(), "aTccccrfo"), Err(Refusal::DeviceFailed));
 }
 
-// The effects that had left where a world is closed behind these letters.
+// The effects that had left if a world is closed after these letters.
 fn closed(alloc: Global, letters: &str) -> Result<usize, Refusal> {
     let steps = steps_of(alloc, letters)?;
     let mut world = World::format(alloc, small_disk(alloc)?, net_id()?, SLOTS)?;

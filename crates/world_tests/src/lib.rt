@@ -1,5 +1,5 @@
-//! Tests of worlds, beside a plain model, and of the public calls of `headline`. They stand above
-//! those crates, so that each of these is proved once.
+//! Tests of worlds, compared with a plain model, and of the public calls of `headline`. This crate
+//! stands above theirs, so that each of those is proved once.
 #![tactic(auto)]
 
 #[cfg(test)]

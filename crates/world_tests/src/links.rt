@@ -1,8 +1,8 @@
-// Pieces of the bytes of links, by the events that they hand in.
+// Pieces of the bytes of links, and the events that result from them.
 
-/// Links say the same wherever they are cut: scripts, as `rows` reads them. An answer to a piece
-/// has the number of the fault behind its events, or 0, and a letter for each of these: `h` is a
-/// copy, `a` a command, in capitals where it is refused.
+/// Links say the same wherever their bytes are cut: scripts, as `rows` reads them. An answer to a
+/// piece has the number of the fault after its events, or 0, and a letter for each of these: `h` is
+/// a copy, `a` a command, in capitals if it is refused.
 pub(crate) const STREAMS: &str = "\
 # A gateway greets, and has a copy; the same again is refused, and another one isn't.
 piece 1 0 00090000000000000000B1 -> turns 0

@@ -7,7 +7,7 @@ use plain_world::worlds::{answers_to, first_difference};
 use std::alloc::Global;
 use world::{Answer, Step};
 
-// So many devices, whose decisions are so many batches, each by its letters.
+// This number of devices, whose decisions make this number of batches, each by its letters.
 #[derive(Clone, Copy)]
 struct Many {
     devices: u64,
@@ -38,7 +38,7 @@ const MOST: Many = Many {
 };
 
 // The devices are provisioned, their batches are taken, committed and released, and their effects
-// leave. Then there is a look at the table, and a crash.
+// leave. Then come a list and a crash.
 fn steps_of(alloc: Global, many: &Many) -> Result<Vec<Step>, Refusal> {
     let mut steps = Vec::new(alloc);
     for dev_eui in 0..many.devices {
@@ -77,7 +77,7 @@ fn is_opening(answer: &Answer) -> bool {
     )
 }
 
-// How many answers do.
+// The number of answers that do.
 fn openings(alloc: Global) -> Result<usize, Refusal> {
     let answers = answers_to(alloc, MOST.devices, &steps_of(alloc, &MOST)?)?;
     let mut opened: usize = 0;
@@ -87,14 +87,15 @@ fn openings(alloc: Global) -> Result<usize, Refusal> {
     Ok(opened)
 }
 
-// At its largest size a world stands beside no model, each of whose steps costs by all commands.
+// At its largest size a world is compared with no model, since each step of a model costs by all
+// commands.
 #[test]
 fn a_store_of_4096_devices_is_opened(rt: HostRuntime) {
     assert_eq!(rt; openings(rt.alloc()), Ok(1));
 }
 
-// As many decisions wait as may, 4,096: an item is refused as Backlog (23), and goes through after
-// 64 of them were taken.
+// The greatest number of decisions waits, 4,096: an item is refused as Backlog (23), and is
+// accepted after 64 of them were taken.
 const ONCE_4096_WAIT: &str = "\
 turn 4096 4096 23 0
 another answer

@@ -23,14 +23,14 @@ enum Old {
     Checkpoints,
 }
 
-// An area of that device alone.
+// An area with only that device.
 fn area(alloc: Global, front: &str) -> Result<Vec<u8>, Refusal> {
     let mut bytes = read_hex(alloc, front)?;
     bytes.extend_from_slice(&read_hex(alloc, OLD_ENTRY)?)?;
     Ok(bytes)
 }
 
-// The first bytes of the second area, all that an adoption may change.
+// The first bytes of the second area, which are all that an adoption may change.
 fn second_front(alloc: Global, old: Old) -> Result<Vec<u8>, Refusal> {
     let mut bytes = match old {
         Old::Batch => Vec::new(alloc),
@@ -55,8 +55,7 @@ fn disk_before(alloc: Global, old: Old) -> Result<MemDisk, Refusal> {
     Ok(disk)
 }
 
-// Adopts a disk whose nth call fails and none after it, and gives it back, and whether no call
-// failed.
+// Adopts a disk of which only the nth call fails. Returns the disk, and whether no call failed.
 fn adopt_till(alloc: Global, mut disk: MemDisk, nth: u64) -> Result<(MemDisk, bool), Refusal> {
     if nth == 0 {
         return Err(Refusal::OutOfStep);
@@ -71,7 +70,7 @@ fn adopt_till(alloc: Global, mut disk: MemDisk, nth: u64) -> Result<(MemDisk, bo
     Ok((disk, is_done))
 }
 
-// How many calls an adoption makes.
+// The number of calls that an adoption makes.
 fn calls_of(alloc: Global, old: Old) -> Result<u64, Refusal> {
     for nth in 1..100 {
         let (_, is_done) = adopt_till(alloc, disk_before(alloc, old)?, nth)?;
@@ -82,10 +81,10 @@ fn calls_of(alloc: Global, old: Old) -> Result<u64, Refusal> {
     Err(Refusal::OutOfStep)
 }
 
-// A byte that stands nowhere on these disks.
+// A byte that doesn't occur on these disks.
 const TORN: u8 = 0xDD;
 
-// The first position that is open, how many are, and the second area's gate.
+// The first position that is open, the number of open ones, and the second area's gate.
 type Open = (Option<usize>, usize, u8);
 
 // What is open if that call of an adoption fails. A failed write opens its positions and leaves the
@@ -102,7 +101,7 @@ fn open_after(alloc: Global, old: Old, nth: u64) -> Result<Open, Refusal> {
     Ok((first, count, gate))
 }
 
-// What is open if one of the last calls fails, from the last one back: 93 bytes are written behind
+// What is open if one of the last calls fails, from the last one back: 93 bytes are written after
 // the second area's gate, and then that gate; each write is synced.
 const OF_BATCH: &[Open] = &[
     (Some(1_083_078), 1, 0xA5),
@@ -160,8 +159,8 @@ fn found(alloc: Global, disk: MemDisk) -> Result<(usize, u64), Refusal> {
     Ok((store.table().devices().len(), store.seq()))
 }
 
-// Whether the device and its number are found again after a crash to this image, whichever call of
-// an adoption fails, and if none does.
+// Whether the device and its number are found again after a crash to this image, if any call of an
+// adoption fails, and if none does.
 fn is_kept(alloc: Global, old: Old, image: &Image) -> Result<bool, Refusal> {
     for nth in 1..100 {
         let (mut disk, is_done) = adopt_till(alloc, disk_before(alloc, old)?, nth)?;
@@ -201,8 +200,8 @@ const IN_USE: &str = concat!(
     "0000000500000000000000030000000000000000",
 );
 
-// Why a frame is refused by a world that adopts that device's disk, and the counter of the downlink
-// that it brings.
+// The refusal of a frame by a world that adopts that device's disk, and the counter of the downlink
+// that the frame causes.
 type Answered = (Option<Refusal>, Option<u32>);
 
 fn refusal_of(answers: &[Answer]) -> Option<Refusal> {

@@ -1,4 +1,4 @@
-// Networks that lost their disk and go on with an older copy of their store.
+// Networks that lost their disk and continue with an older copy of their store.
 use crate::adoption_tests::{left, steps_of};
 use devices::{Activation, Device, GrantsSince, SessionName};
 use disk::{Image, MemDisk};
@@ -6,7 +6,7 @@ use lw_types::{JoinNonce, Refusal};
 use plain_world::worlds::new_disk;
 use std::alloc::Global;
 
-// As many slots as the older copies have.
+// The number of slots of the older copies.
 const SLOTS: u64 = 3;
 
 // The device, with no session, and this JoinNonce as the last one granted.
@@ -26,8 +26,8 @@ fn last_granted(devices: &[Device]) -> u32 {
 }
 
 // An older copy, and how it is restored: the letters of the world whose store it is, the last
-// JoinNonce of its device in the place of its own, or 0, N, and the JoinNonce of the device that is
-// on record, or 0.
+// JoinNonce that replaces that of its device, or 0, N, and the JoinNonce of the device that is on
+// record, or 0.
 type Older = (&'static str, u32, u64, u32);
 
 // A record with this JoinNonce of the first device; an empty one if there is none.
@@ -46,8 +46,8 @@ fn recorded_of(
     Ok(recorded)
 }
 
-// How many answers come, and what is found after a crash: how many devices, the number, and the
-// last JoinNonce that was granted to the first device.
+// The number of answers, and what is found after a crash: the number of devices, the number, and
+// the last JoinNonce that was granted to the first device.
 type Found = (usize, usize, u64, u32);
 
 fn found_after(
@@ -84,8 +84,8 @@ fn found_after(
 // The device joined once before the copy was made.
 const JOINED: &str = "JTccccr1Tccccr";
 
-// An older copy, letters of the network that goes on with it, whether the bytes that aren't synced
-// are found as written, and what is found.
+// An older copy, letters of the network that continues with it, whether the bytes that aren't
+// synced are found as written, and what is found.
 const RESTORED: &[(Older, &str, bool, Result<Found, Refusal>)] = &[
     // A device that never joined.
     (("JTccccr", 0, 1, 0), "", false, Ok((0, 1, 1, 1))),
@@ -106,7 +106,7 @@ const RESTORED: &[(Older, &str, bool, Result<Found, Refusal>)] = &[
     ),
     ((JOINED, 0, 1024, 0), "2Tfcl", true, Ok((5, 1, 2, 1025))),
     ((JOINED, 0, 1024, 0), "aTccccr", false, Ok((7, 2, 3, 1025))),
-    // An earlier restore went on above 1,025: so this one goes on above 2,049.
+    // An earlier restore continued above 1,025, so this one continues above 2,049.
     (
         (JOINED, 0, 1024, 1025),
         "2Tccccr",

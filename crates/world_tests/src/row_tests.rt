@@ -1,4 +1,4 @@
-// Worlds, and their models beside them, that answer as rows tell.
+// Worlds and their models, which give the answers of the rows.
 use crate::links::STREAMS;
 use crate::rows::{add_line, add_rows, ends_so, first_wrong};
 use crate::windows::{GATHERINGS, REFUSED};
@@ -41,7 +41,7 @@ fn add_full(alloc: Global, steps: &mut Vec<Step>) -> Result<(), Refusal> {
     Ok(())
 }
 
-// Whether copies are refused so where 1,024 windows are open, of which the first is full.
+// Whether copies are refused this way if 1,024 windows are open, of which the first is full.
 fn is_refused(alloc: Global) -> Result<bool, Refusal> {
     let (mut steps, mut wanted) = (Vec::new(alloc), Vec::new(alloc));
     add_full(alloc, &mut steps)?;
@@ -55,8 +55,8 @@ fn a_copy_is_refused_for_the_first_reason(rt: HostRuntime) {
     assert_eq!(rt; is_refused(rt.alloc()), Ok(true));
 }
 
-// Scripts of the device that joins, by their letters, and what a list behind them tells: whose
-// DevNonce was seen last at slot 0, and the number.
+// Scripts of the device that joins, by their letters, and what a list after them says: the last
+// DevNonce that was seen at slot 0, and the number.
 const JOINS: &str = "\
 1xJx1 -> listed 1 2
 J1TccccreeeTo -> listed 1 2
@@ -70,8 +70,8 @@ J1Tccccr23Tccccrol3 -> listed 3 4
 J1ta1tTccccrbo -> listed - 1
 ";
 
-// Whether a list behind a script tells this, in a world with three slots, and all of its steps are
-// answered as by the model.
+// Whether a list after a script says this, in a world with three slots, and the model gives the
+// same answers to all of its steps.
 fn joins_so(alloc: Global, letters: &str, told: &str) -> Result<bool, Refusal> {
     let (mut steps, mut wanted) = (Vec::new(alloc), Vec::new(alloc));
     add_letters(alloc, &mut steps, 'a' as u32, letters)?;

@@ -1,4 +1,4 @@
-// Steps that are lines, each with what its answer tells.
+// Steps that are lines, each with what its answer says.
 use crate::answers::tell;
 use lw_types::Refusal;
 use plain_world::steps::step_of;
@@ -6,8 +6,8 @@ use plain_world::worlds::{SLOTS, answers_to, first_difference};
 use std::alloc::Global;
 use world::{Answer, Step};
 
-/// Adds the steps of a script and the lines of their answers: each line of it has a step, an arrow
-/// and what the answer tells. A line that begins with `#` is a comment.
+/// Appends the steps of a script and the lines of their answers: each line of it has a step, an
+/// arrow and what the answer says. A line that begins with `#` is a comment.
 pub(crate) fn add_rows(
     alloc: Global,
     script: &str,
@@ -27,14 +27,14 @@ pub(crate) fn add_rows(
     Ok(())
 }
 
-/// Adds a line to others.
+/// Appends a line to others.
 pub(crate) fn add_line(lines: &mut Vec<u8>, line: &str) -> Result<(), Refusal> {
     lines.extend_from_slice(line.as_bytes())?;
     lines.push(b'\n')?;
     Ok(())
 }
 
-// What these answers tell, a line each.
+// What these answers say, one line each.
 fn told(alloc: Global, answers: &[Answer]) -> Result<Vec<u8>, Refusal> {
     let mut lines = Vec::new(alloc);
     for answer in answers {
@@ -45,7 +45,7 @@ fn told(alloc: Global, answers: &[Answer]) -> Result<Vec<u8>, Refusal> {
     Ok(lines)
 }
 
-/// Whether a new world answers the steps behind the first ones as these lines tell.
+/// Whether a new world gives the answers of these lines to the steps after the first ones.
 pub(crate) fn ends_so(
     alloc: Global,
     slots: u64,
@@ -60,7 +60,7 @@ pub(crate) fn ends_so(
     }
 }
 
-// Whether a world answers as a script tells, and its model like it.
+// Whether a world gives the answers of a script, and its model the same.
 fn is_played(alloc: Global, script: &str) -> Result<bool, Refusal> {
     let (mut steps, mut wanted) = (Vec::new(alloc), Vec::new(alloc));
     add_rows(alloc, script, &mut steps, &mut wanted)?;
@@ -68,8 +68,8 @@ fn is_played(alloc: Global, script: &str) -> Result<bool, Refusal> {
     Ok(is_told && first_difference(alloc, SLOTS, &steps)?.is_none())
 }
 
-/// The number of the first script that is answered otherwise than it tells. An empty line stands
-/// between two.
+/// The number of the first script with a different answer. An empty line stands between two
+/// scripts.
 pub(crate) fn first_wrong(alloc: Global, scripts: &str) -> Result<Option<usize>, Refusal> {
     for (number, script) in scripts.trim_end().split("\n\n").enumerate() {
         if !is_played(alloc, script)? {

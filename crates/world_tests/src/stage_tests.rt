@@ -6,13 +6,13 @@ use std::alloc::Global;
 
 const LETTERS: &str = "abtTNpcfreonl";
 
-// Scripts that lead to a stage: nothing is there, two commands wait, a batch has begun, so many of
-// its four device calls succeeded, and one of them failed.
+// Scripts that lead to a stage: nothing exists, two commands wait, a batch has begun, some of its
+// four device calls succeeded, and one of them failed.
 const BATCHES: &[&str] = &[
     "", "ab", "abt", "abtc", "abtcc", "abtccc", "abtcccc", "abtfc", "abtcfc", "abtccfc", "abtcccfc",
 ];
 
-// The same of a batch that follows one whose gate is written: it has begun, so many of the four
+// The same for a batch that follows one whose gate is written: it has begun, some of the four
 // device calls left succeeded, one of them failed, and one or both batches were released.
 const PAIRS: &[&str] = &[
     "abtcccN",
@@ -28,8 +28,8 @@ const PAIRS: &[&str] = &[
     "abtcccNccccr",
 ];
 
-// The same of a checkpoint: it has begun, so many of its four device calls succeeded, and one of
-// them failed; and of a second one, which takes six.
+// The same for a checkpoint: it has begun, some of its four device calls succeeded, and one of them
+// failed; and for a second one, which takes six.
 const CHECKPOINTS: &[&str] = &[
     "ap",
     "apcc",
@@ -44,14 +44,14 @@ const CHECKPOINTS: &[&str] = &[
 
 const EVENTS: &str = "hgGukwWqmaTcro";
 
-// Scripts with windows: of a device that is there or not, one is open, has two copies, was closed,
-// is open beside a commit or a checkpoint, or was opened by a link; and a join's own commit.
+// Scripts with windows: of a device that exists or not, one is open, has two copies, was closed, is
+// open beside a commit or a checkpoint, or was opened by a link; and a join's own commit.
 const WINDOWS: &[&str] = &[
     "h", "ah", "ahg", "ahk", "aTccch", "ahpcc", "awW", "ahkTcccc",
 ];
 
 // Every step after this first one, from a stage: the scripts stand in one world, one after the
-// other. Each ends with a look at the table and at what may leave, and a crash.
+// other. Each ends with a list, an emit, and a crash.
 fn differs_from(alloc: Global, opening: &str, first: char) -> Result<Option<usize>, Refusal> {
     let mut steps = Vec::new(alloc);
     for second in LETTERS.chars() {
@@ -67,7 +67,7 @@ fn differs_from(alloc: Global, opening: &str, first: char) -> Result<Option<usiz
     first_difference(alloc, SLOTS, &steps)
 }
 
-// The first of those steps behind which a world and its model differ.
+// The first of those steps after which a world and its model differ.
 fn first_that_differs(alloc: Global, opening: &str) -> Result<Option<char>, Refusal> {
     for first in LETTERS.chars() {
         if differs_from(alloc, opening, first)?.is_some() {
@@ -110,8 +110,7 @@ fn checkpoints_answer_as_their_model(rt: HostRuntime) {
     }
 }
 
-// The same with windows, each script in a world of its own. Behind the crash a frame is heard
-// again.
+// The same with windows, each script in a world of its own. After the crash a frame is heard again.
 fn differs_in(
     alloc: Global,
     opening: &str,
@@ -123,7 +122,7 @@ fn differs_in(
     first_difference(alloc, 2, &steps)
 }
 
-// The first event behind this one after which they differ.
+// The first event after this one after which they differ.
 fn next_that_differs(alloc: Global, opening: &str, first: char) -> Result<Option<char>, Refusal> {
     for second in EVENTS.chars() {
         if differs_in(alloc, opening, first, second)?.is_some() {

@@ -1,8 +1,8 @@
-// Windows of a world, by what its events are answered.
+// Windows of a world, as the answers to its events show them.
 
 /// Scripts, as `rows` reads them. An answer to an event has the decisions before and after it, the
-/// number of its refusal, or 0, and how many windows were closed. One device joins; three gateways
-/// hear it on a channel, and one of them beside all.
+/// number of its refusal, or 0, and the number of windows that were closed. One device joins; three
+/// gateways hear it on a channel, and one of them on no channel.
 pub(crate) const GATHERINGS: &str = "\
 # Copies that come within 200 ms are of one window. Then it is due, once.
 provision 0 3 1112131415161718 0102030405060708 2B7E151628AED2A6ABF7158809CF4F3C 0 1 -> turn 0 1 0 0
@@ -86,7 +86,7 @@ tick 0 -> turn 0 0 0 0
 tick 9000 -> turn 0 0 0 0
 ";
 
-/// Copies of frames, and why they are refused where 1,024 windows are open, of which the first is
+/// Copies of frames, and why they are refused if 1,024 windows are open, of which the first is
 /// full: no channel, no window, the same gateway, no room in the window, in this order. The last
 /// one is not refused, and then all windows are closed.
 pub(crate) const REFUSED: &str = "\

@@ -1,4 +1,4 @@
-// What the calls of a batch behind another one write, and those of a change.
+// What the calls of a batch after another one write, and those of a change.
 use disk::{Image, MemDisk, Sim};
 use lw_types::Refusal;
 use plain_world::letters::add_letters;
@@ -10,7 +10,7 @@ use world::{Step, World, run};
 const SLOTS: u64 = 2;
 
 // The first uplink of the device that joins, in the session of the JoinNonce 1, and the third one,
-// to which nothing is answered. The frames were made by Python's `cryptography`.
+// to which there is no answer. The frames were made by Python's `cryptography`.
 const FIRST_UPLINK: &str = "frame 0 400100005401000002013F34D31913AC6B";
 
 const THIRD_UPLINK: &str = "frame 0 4001000054000200015F7585874D";
@@ -39,7 +39,7 @@ fn crashed(alloc: Global, letters: &str, byte: u8) -> Result<MemDisk, Refusal> {
     Ok(disk)
 }
 
-// A position, and how many from there on are open.
+// A position, and the number of positions from there on that are open.
 type Range = (usize, usize);
 
 fn add_position(ranges: &mut Vec<Range>, position: usize) -> Result<(), Refusal> {
@@ -68,7 +68,7 @@ fn open_ranges(alloc: Global, letters: &str) -> Result<Vec<Range>, Refusal> {
 }
 
 const OPEN_RANGES: &[(&str, &[Range])] = &[
-    // A batch of one new device: 14 bytes of numbers, an entry of 63 and a closed gate behind the
+    // A batch of one new device: 14 bytes of numbers, an entry of 63 and a closed gate after the
     // gate at 62.
     ("aTc", &[(63, 78)]),
     ("aTcc", &[]),

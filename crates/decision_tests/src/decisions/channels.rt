@@ -1,12 +1,13 @@
-// On which channels frames are taken. Frames, keys and MICs were made by Python's `cryptography`.
+// The channels on which frames are accepted. Frames, keys and MICs were made by Python's
+// `cryptography`.
 use crate::decisions::records::{ANSWERED, FIRST_SESSION, HEARD, IN_USE, SWITCHED, WAITING};
 use crate::fixture::{REQUEST_1, REQUEST_2};
 use crate::network::{Comes, FRESH, Grant, Refused, Row, State};
 use devices::Channels;
 use lw_types::Refusal;
 
-/// The first channels and those that an accept adds, and their frequencies as frames for gateways
-/// have them.
+/// The first channels and those that an accept adds, and their frequencies as they are in frames
+/// for gateways.
 pub(super) const FIRST: [(u32, &str); 3] = [
     (868_100_000, "33BE27A0"),
     (868_300_000, "33C134E0"),
@@ -34,7 +35,7 @@ const REPEAT: &str = "40010000540000001BF1C7F9";
 
 const CONFIRMED_REPEAT: &str = "80010000540000001390E22F";
 
-// The uplink 0 with AB on port 1 of the session that has the same address, and of the one that the
+// The uplink 0 with AB on port 1, of the session with the same address, and of the one that the
 // second join grants.
 const OTHER_FIRST: &str = "4001000054000000017CC4C2F804";
 
@@ -54,7 +55,7 @@ const SECOND: Grant = (
     ),
 );
 
-// The same, and the session of the second join waits.
+// The same, and the session of the second join is pending.
 const JOINED_ANEW: State = State {
     last_dev_nonce: Some(2),
     join_nonce: 2,
@@ -71,7 +72,7 @@ pub(super) const CHANNELS: &[Row] = &[
             00201100000000000000B10000C35033AEE5600501026001000054200000C46172EF",
         after: ANSWERED,
     },
-    // the channel of the copy that was heard best counts, and no other
+    // only the channel of the copy that was heard best counts
     Row {
         before: IN_USE,
         comes: Comes::Best(867_900_000, 868_100_000, UNCONFIRMED_AB),
@@ -99,7 +100,7 @@ pub(super) const CHANNELS: &[Row] = &[
             ..FRESH
         },
     },
-    // a session of three channels goes on on these
+    // a session of three channels continues on these
     Row {
         before: ON_THREE,
         comes: Comes::On(868_300_000, 5, CONFIRMED_REPEAT),
@@ -109,7 +110,7 @@ pub(super) const CHANNELS: &[Row] = &[
             ..ON_THREE
         },
     },
-    // its device joins anew: the session that waits has eight
+    // its device joins again: the pending session has eight
     Row {
         before: State {
             last_dev_nonce: Some(1),
@@ -132,7 +133,7 @@ pub(super) const CHANNELS: &[Row] = &[
             ..FRESH
         },
     },
-    // of two sessions with one address the channels of the one that fits count
+    // of two sessions with one address, the channels of the one that fits count
     Row {
         before: State {
             channels: Channels::Three,
@@ -198,7 +199,7 @@ pub(super) const REFUSALS: &[Refused] = &[
         Comes::On(867_700_000, 5, OTHER_FIRST),
         Refusal::UnknownChannel,
     ),
-    // before it is looked at whether it comes again
+    // before the test whether it comes again
     (
         ON_THREE,
         Comes::On(867_300_000, 5, REPEAT),
@@ -211,7 +212,7 @@ pub(super) const REFUSALS: &[Refused] = &[
     ),
     (ON_THREE, Comes::On(868_300_000, 5, REPEAT), Refusal::Repeat),
     (IN_USE, Comes::On(867_300_000, 5, REPEAT), Refusal::Repeat),
-    // behind its layout, its address, its counter and its MIC
+    // after its layout, its address, its counter and its MIC
     (
         ON_THREE,
         Comes::On(867_100_000, 5, "4001000054000100445EC5"),
@@ -243,7 +244,7 @@ pub(super) const REFUSALS: &[Refused] = &[
         Comes::Best(867_100_000, 868_100_000, REQUEST_1),
         Refusal::UnknownChannel,
     ),
-    // behind its layout, before its device, its server, its MIC and its nonces
+    // after its layout, before its device, its server, its MIC and its nonces
     (
         FRESH,
         Comes::On(

@@ -3,18 +3,19 @@ use crate::decisions::records::{FIRST_SESSION, HEARD, IN_USE, SWITCHED, WAITING}
 use crate::fixture::{JOINER, REQUEST_1};
 use crate::network::{Comes, Row, State};
 
-// The end of the count.
+// The highest value of the count.
 const END: u64 = 9_223_372_036_854_775_807;
 
-// The uplink 0 of the session that waits, and the uplink 1 of the one in use.
+// The uplink 0 of the pending session, and the uplink 1 of the current one.
 const FIRST: &str = "4001000054000000017CC4C2F804";
 
 const NEXT: &str = "4001000054000100445EC542";
 
-// The last uplink of the session in use, 0, comes again, confirmed.
+// The last uplink of the current session, 0, comes again, confirmed.
 const AGAIN: &str = "80010000540000001390E22F";
 
-// Each new uplink is one more, up to the end, over all sessions of a device; nothing else is.
+// Each new uplink is counted, over all sessions of a device, up to the highest value; nothing else
+// is counted.
 pub(super) const COUNTS: &[Row] = &[
     // the first of a device
     Row {
@@ -100,7 +101,7 @@ pub(super) const COUNTS: &[Row] = &[
             ..IN_USE
         },
     },
-    // up to the end
+    // up to the highest value
     Row {
         before: State {
             heard: END - 1,
@@ -113,7 +114,7 @@ pub(super) const COUNTS: &[Row] = &[
             ..HEARD
         },
     },
-    // at the end
+    // at the highest value
     Row {
         before: State {
             heard: END,

@@ -21,7 +21,7 @@ const OTHER_SERVER: &str = "00090706050403020118171615141312110100FD3D6E86";
 
 const OTHER_SERVER_UNSIGNED: &str = "00090706050403020118171615141312110100FD3D6E87";
 
-// With DevNonce 1, of DevEUI 1112131415161719.
+// With DevNonce 1, from DevEUI 1112131415161719.
 const OTHER_DEVICE: &str = "00080706050403020119171615141312110100B2193F70";
 
 // The second grant to the device at slot 0, by a request with DevNonce 2.
@@ -46,7 +46,7 @@ const JOINED: State = State {
     ..FRESH
 };
 
-// The same, whose session is in use.
+// The same, with the session current.
 const IN_USE_7: State = State {
     last_dev_nonce: Some(1),
     last_up: 7,
@@ -347,7 +347,7 @@ pub(super) const JOINS: &[Row] = &[
             ..FRESH
         },
     },
-    // a session that waits is replaced, and the current one stays
+    // a pending session is replaced, and the current one stays
     Row {
         before: IN_USE_7,
         comes: Comes::Frame(REQUEST_2),
@@ -384,7 +384,7 @@ pub(super) const JOINS: &[Row] = &[
             ..IN_USE_7
         },
     },
-    // what was refused has left what was granted (`REFUSALS`)
+    // a refused join leaves what was granted (`REFUSALS`)
     Row {
         before: State {
             last_dev_nonce: Some(1),
@@ -498,7 +498,7 @@ pub(super) const REFUSALS: &[Refused] = &[
         Comes::Frame(REQUEST_65535),
         Refusal::DevNonceUsed,
     ),
-    // what is no join
+    // bytes that are no join
     (AFTER_5, Comes::Frame(""), Refusal::Malformed),
     (
         AFTER_5,
@@ -533,7 +533,7 @@ pub(super) const REFUSALS: &[Refused] = &[
     (AFTER_5, Comes::Frame(OTHER_DEVICE), Refusal::UnknownDevEui),
     (AFTER_5, Comes::Frame(OTHER_SERVER), Refusal::WrongJoinEui),
     (AFTER_5, Comes::Frame(REQUEST_9_UNSIGNED), Refusal::BadMic),
-    // of two causes the first is told
+    // of two causes the first is returned
     (
         AFTER_5,
         Comes::Frame(OTHER_SERVER_UNSIGNED),

@@ -1,8 +1,8 @@
-// What a downlink takes with it. Frames were made by Python's `cryptography`.
+// What a downlink carries. Frames were made by Python's `cryptography`.
 use crate::decisions::records::{ANSWERED, HEARD, IN_USE};
 use crate::network::{Comes, Items, Row, State};
 
-// LinkCheckAns, whole MAC commands within 15 bytes, and the first item where it fits RX1.
+// LinkCheckAns, whole MAC commands within 15 bytes, and the first item if it fits RX1.
 pub(super) const LOADS: &[Row] = &[
     Row {
         before: State {
@@ -196,7 +196,7 @@ pub(super) const LOADS: &[Row] = &[
     },
 ];
 
-// An item of exactly the room, and one byte more; a confirmed one is awaited; RX2 takes 59 bytes.
+// An item that fits exactly, and one byte more; a confirmed one is awaited; RX2 takes 59 bytes.
 pub(super) const ITEMS: &[Row] = &[
     Row {
         before: State {

@@ -2,8 +2,8 @@
 use crate::decisions::records::{ANSWERED, HEARD, IN_USE};
 use crate::network::{Comes, Row};
 
-// The application is told the MAC commands that the network does not answer, up to the first that
-// is not whole or not known.
+// The MAC commands that the network doesn't answer are reported to the application, up to the first
+// that isn't whole or isn't known.
 pub(super) const MAC_COMMANDS: &[Row] = &[
     Row {
         before: IN_USE,
@@ -14,7 +14,7 @@ pub(super) const MAC_COMMANDS: &[Row] = &[
         ),
         after: ANSWERED,
     },
-    // FF is no command, and LinkCheckReq behind it is not read
+    // FF is no command, and LinkCheckReq after it isn't read
     Row {
         before: IN_USE,
         comes: Comes::Frame("40010000540401000307FF023D326045"),
@@ -27,14 +27,14 @@ pub(super) const MAC_COMMANDS: &[Row] = &[
         wanted: "mac 1112131415161718 1 0307",
         after: HEARD,
     },
-    // the second is cut
+    // the second is cut short
     Row {
         before: IN_USE,
         comes: Comes::Frame("40010000540401000307060160861A7B"),
         wanted: "mac 1112131415161718 1 0307",
         after: HEARD,
     },
-    // DeviceTimeReq is not told
+    // DeviceTimeReq isn't reported
     Row {
         before: IN_USE,
         comes: Comes::Frame("400100005400010000FCF334523D60762663"),
@@ -91,7 +91,7 @@ pub(super) const MAC_COMMANDS: &[Row] = &[
     },
 ];
 
-// The ports 1 to 223 are of applications; a payload may be empty.
+// Ports 1 to 223 are applications' ports; a payload may be empty.
 pub(super) const PORTS: &[Row] = &[
     Row {
         before: IN_USE,

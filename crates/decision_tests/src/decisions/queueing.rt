@@ -1,4 +1,4 @@
-// Items and MAC commands that a table queues. The device 50 is of the application 3, and at slot 0.
+// Items and MAC commands that a table queues. Device 50 belongs to application 3 and is at slot 0.
 use crate::network::{Asked, Comes, FRESH, Items, Refused, Row, State};
 use lw_types::Refusal;
 
@@ -30,7 +30,7 @@ pub(super) const ITEM: Asked = Asked {
     len: 1,
 };
 
-// DevStatusReq, so many.
+// This number of DevStatusReq.
 const SIXES_64: &str = concat!(
     "0606060606060606060606060606060606060606060606060606060606060606060606060606060606060606",
     "0606060606060606060606060606060606060606",
@@ -110,7 +110,7 @@ pub(super) const QUEUED: &[Row] = &[
             ..FIFTY
         },
     },
-    // MAC commands wait behind others
+    // MAC commands wait after others
     Row {
         before: ASKED,
         comes: Comes::Mac(3, 50, "06"),
@@ -205,7 +205,7 @@ pub(super) const QUEUED: &[Row] = &[
     },
 ];
 
-// Items of another device or application, or not as an item may be.
+// Items for another device or application, or out of range.
 pub(super) const REFUSALS: &[Refused] = &[
     (
         FIFTY,
@@ -270,7 +270,7 @@ pub(super) const REFUSALS: &[Refused] = &[
         Comes::Item(Asked { port: 255, ..ITEM }),
         Refusal::BadPort,
     ),
-    // where sixteen wait
+    // if sixteen wait
     (
         SIXTEEN,
         Comes::Item(Asked { port: 17, ..ITEM }),
@@ -290,10 +290,9 @@ pub(super) const REFUSALS: &[Refused] = &[
         }),
         Refusal::TooLong,
     ),
-    // bytes that are refused as MAC commands
-    // of no device
+    // bytes that are refused as MAC commands for no device
     (FIFTY, Comes::Mac(3, 51, "06"), Refusal::UnknownDevEui),
-    // of another application's
+    // for another application's device
     (FIFTY, Comes::Mac(4, 50, "06"), Refusal::UnknownDevEui),
     (FIFTY, Comes::Mac(4, 50, ""), Refusal::UnknownDevEui),
     // nothing
@@ -302,13 +301,13 @@ pub(super) const REFUSALS: &[Refused] = &[
     (FIFTY, Comes::Mac(3, 50, "03500700"), Refusal::BadMac),
     // a cut DutyCycleReq
     (FIFTY, Comes::Mac(3, 50, "0604"), Refusal::BadMac),
-    // a DevStatusReq with a byte behind it
+    // a DevStatusReq with a byte after it
     (FIFTY, Comes::Mac(3, 50, "0600"), Refusal::BadMac),
     // an RXParamSetupReq
     (FIFTY, Comes::Mac(3, 50, "0500000000"), Refusal::BadMac),
-    // a LinkCheckAns behind a DevStatusReq
+    // a LinkCheckAns after a DevStatusReq
     (FIFTY, Comes::Mac(3, 50, "06020A01"), Refusal::BadMac),
-    // no more than 128 bytes of commands wait; what is no command is told first
+    // at most 128 bytes of commands wait; bytes that are no commands are refused first
     (FIFTY, Comes::Mac(3, 50, SIXES_129), Refusal::MacQueueFull),
     (FIFTY, Comes::Mac(3, 50, SIXES_300), Refusal::MacQueueFull),
     (

@@ -2,7 +2,7 @@
 // were made by Python's `cryptography`.
 use crate::network::{FRESH, Grant, HeardBy, State};
 
-/// The session of the join under JoinNonce 1 and DevNonce 1.
+/// The session of the join with JoinNonce 1 and DevNonce 1.
 pub(super) const FIRST_SESSION: Grant = (
     1,
     (
@@ -11,7 +11,7 @@ pub(super) const FIRST_SESSION: Grant = (
     ),
 );
 
-// That of the join under JoinNonce 8193 and DevNonce 2. It has the same address.
+// The session of the join with JoinNonce 8193 and DevNonce 2. It has the same address.
 const SAME_ADDRESS: Grant = (
     8193,
     (
@@ -20,7 +20,7 @@ const SAME_ADDRESS: Grant = (
     ),
 );
 
-/// The first session is in use and has had its uplink 0, which is counted, and nothing waits.
+/// The first session is current and has had its uplink 0, which is counted, and nothing waits.
 pub(super) const IN_USE: State = State {
     join_nonce: 1,
     in_use: Some(FIRST_SESSION),
@@ -41,14 +41,14 @@ pub(super) const ANSWERED: State = State {
     ..HEARD
 };
 
-/// The first session is in use, and the one with the same address waits for its first uplink.
+/// The first session is current, and the one with the same address is pending.
 pub(super) const WAITING: State = State {
     join_nonce: 8193,
     waiting: Some(SAME_ADDRESS),
     ..IN_USE
 };
 
-/// The session that waited is in use after its uplink 0, which is counted too.
+/// The session that was pending is current after its uplink 0, which is counted too.
 pub(super) const SWITCHED: State = State {
     join_nonce: 8193,
     in_use: Some(SAME_ADDRESS),

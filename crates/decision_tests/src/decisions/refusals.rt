@@ -101,7 +101,7 @@ pub(super) const REFUSALS: &[Refused] = &[
         Comes::Frame("4001000054000100445EC543"),
         Refusal::BadMic,
     ),
-    // of a session that is not there
+    // of a session that doesn't exist
     (
         IN_USE,
         Comes::Frame("400100005400010083B97874"),

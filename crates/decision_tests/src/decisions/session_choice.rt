@@ -1,8 +1,8 @@
-// Which session an uplink is of. Frames were made by Python's `cryptography`.
+// The session to which an uplink belongs. Frames were made by Python's `cryptography`.
 use crate::decisions::records::{HEARD, IN_USE, SWITCHED, WAITING};
 use crate::network::{Comes, Row, State};
 
-// The session that waits has the same address: it is tried first, and what was awaited in the one
+// The pending session has the same address. It is tried first, and what was awaited in the session
 // before is lost.
 pub(super) const SESSIONS: &[Row] = &[
     Row {
@@ -47,7 +47,7 @@ pub(super) const SESSIONS: &[Row] = &[
             ..SWITCHED
         },
     },
-    // the MIC is of the current session
+    // the MIC belongs to the current session
     Row {
         before: State {
             last_up: 7,
@@ -63,7 +63,7 @@ pub(super) const SESSIONS: &[Row] = &[
             ..WAITING
         },
     },
-    // too far for the session that waits
+    // too far for the pending session
     Row {
         before: State {
             last_up: 19_999,

@@ -1,4 +1,4 @@
-// What one device does after another: each row begins with the record that the one above left.
+// What one device does, step by step: each row begins with the record that the row above left.
 // Frames were made by Python's `cryptography`.
 use crate::decisions::records::{ANSWERED, HEARD, IN_USE, SWITCHED, WAITING};
 use crate::fixture::JOINER;
@@ -19,8 +19,8 @@ const SPENT: u64 = 1 << 32;
 
 // Three stories.
 pub(super) const STORIES: &[Row] = &[
-    // An item and MAC commands that are queued go with the next downlink; the item is awaited, and
-    // acknowledged.
+    // An item and MAC commands that are queued leave with the next downlink; the item is awaited
+    // and acknowledged.
     Row {
         before: IN_USE,
         comes: Comes::Item(ITEM),
@@ -105,7 +105,7 @@ pub(super) const STORIES: &[Row] = &[
             ..IN_USE
         },
     },
-    // The session that waited is in use from its first uplink on, and that uplink may come again.
+    // The pending session becomes current with its first uplink, and that uplink may come again.
     Row {
         before: State {
             last_up: 7,

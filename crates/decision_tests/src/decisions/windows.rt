@@ -17,7 +17,7 @@ pub(super) const ACKS: [&str; 6] = [
     "00201100000000000000B10000C35033BE27A00501026001000054200000C46172EF",
 ];
 
-// For each RX1DROffset the data rate of RX1 by that of the uplink: it is less by the offset, and at
+// For each RX1DROffset, the data rate of RX1 by that of the uplink: lower by the offset, and at
 // least 0.
 pub(super) const RX1_RATES: [[usize; 6]; 6] = [
     [0, 1, 2, 3, 4, 5],

@@ -1,4 +1,4 @@
-// An event, as the windows see it: what is due closes first, then the copy comes.
+// An event as the windows see it: first the windows that are due close, then the copy comes.
 ghost use Rattle.std.specs.Prelude.{◌≤◌, All, OnOk};
 ghost use Rattle.devices.specs.Heard.{IsReceivable};
 ghost use Rattle.dedup.specs.Windows.{IsCurrent};
@@ -8,8 +8,8 @@ use devices::Heard;
 use lw_types::{FrameCopy, Refusal};
 use std::alloc::AllocError;
 
-// What a window that closed is told as: the last byte of its frame, times 100, and how many copies
-// it had.
+// A closed window as one number: the last byte of its frame, times 100, plus the number of its
+// copies.
 fn told(heard: &Heard) -> usize {
     let last = heard.phy_payload.as_slice().last().copied().unwrap_or(0);
     usize::from(last) * 100 + heard.hearings.as_slice().len()
@@ -26,7 +26,7 @@ pub fn close_due(windows: &mut Windows, now: u64, closed: &mut Vec<usize>) -> Re
     Ok(())
 }
 
-// The number of the refusal, or 0 where the copy is taken.
+// The number of the refusal, or 0 if the copy is taken.
 pub fn event(
     windows: &mut Windows,
     now: u64,

@@ -31,14 +31,14 @@ fn copy_of(alloc: Global, gateway: u64, number: u16) -> Result<FrameCopy, Refusa
 // A moment, a gateway, and the number of a frame.
 type Row = (u64, u64, u16);
 
-// What copies are answered, and what the windows that close are told as.
+// The answers to copies, and the windows that close, as numbers.
 #[derive(Drop)]
 struct Played {
     answers: Vec<u8>,
     closed: Vec<usize>,
 }
 
-// These copies come to no windows, and the last moment after them.
+// Plays these copies on no windows, and the last moment after them.
 fn play_all(
     alloc: Global,
     windows: &mut Windows,
@@ -58,7 +58,7 @@ fn play_all(
     Ok(close_due(windows, clock.max(last), &mut played.closed)?)
 }
 
-// What each of these copies is answered, and the windows that close till the last moment.
+// The answer to each of these copies, and the windows that close up to the last moment.
 fn play(alloc: Global, rows: &[Row], last: u64) -> Result<Played, Refusal> {
     let mut played = Played {
         answers: Vec::new(alloc),
@@ -68,7 +68,7 @@ fn play(alloc: Global, rows: &[Row], last: u64) -> Result<Played, Refusal> {
     Ok(played)
 }
 
-// Copies one after another, the answer to each, and the windows that close till a last moment.
+// Copies one after another, the answer to each, and the windows that close up to a last moment.
 struct Script {
     copies: &'static [Row],
     last: u64,
@@ -108,7 +108,7 @@ const SCRIPTS: &[Script] = &[
     },
 ];
 
-// Whether a script is answered so.
+// Whether the answers are those of the script.
 fn is_answered(alloc: Global, script: &Script) -> Result<bool, Refusal> {
     let played = play(alloc, script.copies, script.last)?;
     Ok(played.answers.as_slice() == script.answers && played.closed.as_slice() == script.closed)
@@ -121,7 +121,7 @@ fn windows_take_copies_for_200_ms_and_close_in_order(rt: HostRuntime) {
     }
 }
 
-// So many copies at one moment, from gateways and of frames that take turns.
+// This number of copies at one moment, from gateways and of frames that take turns.
 fn crowd(alloc: Global, copies: u16, gateways: u16, frames: u16) -> Result<Vec<Row>, Refusal> {
     let mut rows = Vec::new(alloc);
     for n in 0..copies {
@@ -131,7 +131,7 @@ fn crowd(alloc: Global, copies: u16, gateways: u16, frames: u16) -> Result<Vec<R
     Ok(rows)
 }
 
-// How many copies are taken by these answers, and what the last one is answered.
+// The number of copies that these answers take, and the last answer.
 fn told(answers: &[u8]) -> (usize, u8) {
     let mut taken: usize = 0;
     for answer in answers {
@@ -146,8 +146,8 @@ fn taken(alloc: Global, copies: u16, gateways: u16, frames: u16) -> Result<(usiz
     Ok(told(&play(alloc, &rows, 0)?.answers))
 }
 
-// A window has 32 copies at most, and a gateway that was heard before is refused as such, in a full
-// window too; at most 1,024 windows are open.
+// A window has at most 32 copies. A gateway that was heard before is refused for that reason, also
+// in a full window. At most 1,024 windows are open.
 const CROWDS: &[((u16, u16, u16), (usize, u8))] = &[
     ((32, 32, 1), (32, 0)),
     ((33, 33, 1), (32, 22)),

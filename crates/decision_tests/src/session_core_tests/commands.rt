@@ -19,7 +19,7 @@ const ITEM: Asked = Asked {
 // The gateway B1 hears a frame of no device.
 const B1_HEARS: Event = Event::Copy(0xB1, 868_100_000, 5);
 
-// Each command has its turn and its outcome; want of memory has no outcome.
+// Each command has its turn and its outcome; out of memory has no outcome.
 pub(super) const TURNS: &[Step] = &[
     Step::Core(8, 6),
     Step::At(0, Event::Ask(Comes::Device(50)), (0, 1, None), 0),
@@ -160,7 +160,7 @@ pub(super) const TAKEN: &[Step] = &[
     Step::Take(2, 7, 9),
     Step::Take(64, 9, 10),
     Step::Take(1, 10, 10),
-    // a device joins behind its provisioning
+    // a device joins after its provisioning
     Step::Core(8, 6),
     Step::At(
         0,

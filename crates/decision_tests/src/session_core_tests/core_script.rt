@@ -8,7 +8,7 @@ use session_core::{Core, Moment, Most, Outcome, Turn};
 use sessions::Decision;
 use std::alloc::Global;
 
-// A data frame of a device that no table here has.
+// A data frame of a device that is in no table here.
 const FRAME: &str = "40F17DBE4900020001954378762B11FF0D";
 
 /// A frequency that is a channel, in Hz.
@@ -19,17 +19,17 @@ const CHANNEL: u32 = 868_100_000;
 pub(super) enum Event {
     /// A command.
     Ask(Comes),
-    /// A command for which there is no memory to hand it in.
+    /// A command, when memory to hand it in is out.
     Starve(Comes),
-    /// Anything for which there is no memory.
+    /// Any event, when memory is out.
     Miss,
-    /// A copy of a frame of no device: by which gateway, at which frequency and data rate.
+    /// A copy of a frame of no device: from which gateway, and at which frequency and data rate.
     Copy(u64, u32, u8),
     /// A gateway's copy of the joining device's first Join-Request.
     Request(u64),
     /// A gateway's copy of that device's first uplink.
     Uplink(u64),
-    /// Nothing but the moment.
+    /// Only the moment.
     Time,
 }
 
@@ -38,38 +38,40 @@ pub(super) type Answer = (u64, u64, Option<Refusal>);
 
 /// What happens to a core, and what has to be seen then.
 pub(super) enum Step {
-    /// A core begins, over a table with so many slots and no device, whose last decision had this
-    /// number.
+    /// A core begins over a table with this number of slots and no device, whose last decision had
+    /// this number.
     Core(u64, u64),
-    /// At a moment this comes: its answer, and how many windows it closed.
+    /// This comes at a moment: its answer, and how many windows it closed.
     At(u64, Event, Answer, usize),
-    /// At 0 this comes so many times.
+    /// This comes this number of times at moment 0.
     Again(u64, Event, Answer),
-    /// At 0 copies come of so many frames, by so many gateways each: the refusal of the last one.
+    /// Copies of this number of frames come at moment 0, from this number of gateways each: the
+    /// refusal of the last one.
     Crowd(u16, u64, Option<Refusal>),
-    /// So many devices are provisioned, the DevEUIs from 0 on, to a core without decisions.
+    /// This number of devices are provisioned, with DevEUIs from 0 on, in a core without decisions.
     Fill(u64),
-    /// At most so many decisions are taken: those of the numbers from one to before another.
+    /// At most this number of decisions are taken. They have the numbers from the second value to
+    /// before the third.
     Take(u64, u64, u64),
-    /// So many times 64 decisions are taken, the numbers from 1 on.
+    /// Batches of 64 decisions are taken, this number of times, with numbers from 1 on.
     Empty(u64),
     /// Three decisions are taken, of which the second is a join that the gateways B1 and B2 heard.
     TakeJoin,
     /// Three decisions are taken, of which the last is an uplink that the gateways B1 and B2 heard.
     TakeUplink,
-    /// How many decisions were made, the number of the last one, how many wait, and how many
-    /// devices there are.
+    /// The number of decisions made, the number of the last one, how many wait, and the number of
+    /// devices.
     Counts(u64, u64, usize, usize),
-    /// The outcome with so many before it.
+    /// The outcome that has this number of outcomes before it.
     Outcome(usize, Outcome),
-    /// How many outcomes are kept.
+    /// The number of outcomes that are kept.
     Outcomes(usize),
     /// The last DevNonce of the device at slot 1.
     DevNonce(Option<u16>),
 }
 
-/// What isn't seen so, a line each: the script, the number of the step, what was wanted, and what
-/// came.
+/// The steps that are wrong, one line each: the script, the number of the step, what was wanted,
+/// and what came.
 pub(super) fn wrong_steps(alloc: Global, name: &str, steps: &[Step]) -> Result<String, Refusal> {
     let mut wrong = String::new(alloc);
     let mut core = new_core(alloc, 1, 0)?;
@@ -82,7 +84,7 @@ pub(super) fn wrong_steps(alloc: Global, name: &str, steps: &[Step]) -> Result<S
     Ok(wrong)
 }
 
-// What is wanted and what comes, where a step isn't seen so.
+// What is wanted and what comes, if a step is wrong.
 fn fault(alloc: Global, core: &mut Core, step: &Step) -> Result<Option<String>, Refusal> {
     let Step::At(moment, event, wanted, closings) = step else {
         return Ok(if goes_on(alloc, core, step)? {
@@ -141,7 +143,7 @@ fn begin(alloc: Global, core: &mut Core, slots: u64, seq: u64) -> Result<bool, R
     Ok(true)
 }
 
-// What this is answered.
+// The answer to this.
 fn answer_at(
     alloc: Global,
     core: &mut Core,
@@ -175,7 +177,7 @@ fn answer(alloc: Global, core: &mut Core, moment: Moment, event: &Event) -> Resu
     }
 }
 
-// A command comes by the call of its kind.
+// Hands a command in by the call of its kind.
 fn ask(core: &mut Core, moment: Moment, command: Command) -> Turn {
     match command {
         Command::Provision(provisioning) => core.provision(moment, provisioning),

@@ -1,5 +1,4 @@
-// The limits of a core: how many outcomes are kept, windows are open, copies are gathered, and
-// decisions wait.
+// The limits of a core: kept outcomes, open windows, gathered copies, and waiting decisions.
 use crate::fixture::REQUEST_1;
 use crate::network::{Asked, Comes};
 use crate::session_core_tests::core_script::{Event, Step};
@@ -50,7 +49,7 @@ pub(super) const OUTCOMES: &[Step] = &[
     Step::Outcomes(64),
 ];
 
-// The 1,025th window does not open.
+// The 1,025th window doesn't open.
 pub(super) const WINDOWS: &[Step] = &[
     Step::Core(8, 0),
     Step::Crowd(1023, 1, None),
@@ -61,7 +60,8 @@ pub(super) const WINDOWS: &[Step] = &[
     Step::Core(8, 0),
     Step::Crowd(1025, 1, Some(Refusal::WindowsFull)),
     Step::At(200, Event::Time, (0, 0, None), 1024),
-    // a copy of a frame whose window is open is taken, and a new frame once they are closed
+    // a copy of a frame whose window is open is taken; a new frame is taken after the windows are
+    // closed
     Step::Core(8, 0),
     Step::Crowd(1025, 1, Some(Refusal::WindowsFull)),
     Step::At(0, B1_HEARS, (0, 0, None), 0),
@@ -80,8 +80,8 @@ pub(super) const WINDOWS: &[Step] = &[
     Step::Crowd(1, 33, Some(Refusal::CopiesFull)),
 ];
 
-// As many decisions wait as there is room for, and no more: be it a provisioning, a join, an item,
-// a command without memory or the frame of a window that is due.
+// Decisions wait up to the limit. After that a provisioning, a join, an item, a command without
+// memory and the frame of a window that is due are all refused.
 pub(super) const WAITING: &[Step] = &[
     Step::Core(4096, 0),
     Step::Fill(4096),
@@ -143,7 +143,7 @@ pub(super) const WAITING: &[Step] = &[
     Step::Counts(4097, 4097, 4033, 4096),
 ];
 
-// A refusal is known without memory.
+// A refusal is returned without memory too.
 pub(super) const NUMBERS: &[Step] = &[
     Step::Core(1, 0),
     Step::At(0, Event::Ask(Comes::Device(50)), (0, 1, None), 0),
@@ -159,7 +159,7 @@ pub(super) const NUMBERS: &[Step] = &[
         (1, 1, Some(Refusal::TableFull)),
         0,
     ),
-    // that of a Join-Request where no device has its DevEUI, also of its window
+    // so is that of a Join-Request if no device has its DevEUI, also when its window closes
     Step::At(
         0,
         Event::Starve(Comes::Frame(REQUEST_1)),
@@ -191,7 +191,7 @@ pub(super) const NUMBERS: &[Step] = &[
         (1, 1, Some(Refusal::Backlog)),
         0,
     ),
-    // none is
+    // no number is left
     Step::Core(8, u64::MAX),
     Step::At(
         0,

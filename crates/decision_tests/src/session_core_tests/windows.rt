@@ -3,7 +3,7 @@ use crate::session_core_tests::core_script::{Event, Step};
 use lw_types::Refusal;
 use session_core::{LAST_MOMENT, Outcome};
 
-// What comes of the frame.
+// The outcome of the frame.
 const UNKNOWN: Outcome = Outcome::Refused(Refusal::UnknownDevAddr);
 
 // Copies gather for 200 ms.
@@ -37,7 +37,7 @@ pub(super) const MOMENTS: &[Step] = &[
     Step::Outcome(0, UNKNOWN),
     Step::Outcome(1, UNKNOWN),
     Step::Outcomes(2),
-    // what comes with an earlier moment comes at the latest one so far
+    // an event with an earlier moment comes at the latest moment so far
     Step::Core(8, 0),
     Step::At(199, Event::Time, (0, 0, None), 0),
     Step::At(100, Event::Copy(0xB1, 868_100_000, 5), (0, 0, None), 0),

@@ -14,12 +14,12 @@ use Rattle.headline.specs.Crash.{IsOpenedAfterCrash}
 use Rattle.headline.specs.Recovers.{NoMarkTwice, Recovers}
 use Rattle.headline.proofs.crash_after_restoring.Goals as goal
 
--- sessions that count as granted leave the slots
+-- sessions that count as granted don't change the slots
 slots_stay : (sessions : List SessionName) (t : TableState) → (raised_by_all sessions t).slots ≡ t.slots
 slots_stay [] t = refl
 slots_stay (s ∷ sessions) t = slots_stay sessions (raised_table s t)
 
--- what covers these marks covers them under its other name
+-- what covers these marks covers them under their other name
 all_covered : (t restored : TableState) (marks : List Mark) → t ≡ restored → All (λ m. Covers restored m) marks → All (λ m. Covers t m) marks
 all_covered t restored marks is covered = subst (λ (table : TableState). All (λ (m : Mark). Covers table m) marks) (sym is) covered
 

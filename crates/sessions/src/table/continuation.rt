@@ -1,4 +1,4 @@
-// Decisions on a table: whether they continue it, and the table with their records.
+// Decisions on a table: whether they continue it, and the table after them.
 ghost use Rattle.std.specs.Prelude.{◌≡◌, ◌<◌, ◌↔◌, IsTrue, MatchResult};
 ghost use Rattle.std.specs.Option.{option_copied};
 ghost use Rattle.lw_types.specs.declared.refusal.Refusal.TheVariants.{OutOfMemory};
@@ -10,9 +10,10 @@ use devices::Device;
 use lw_types::Refusal;
 
 impl Table {
-    /// Whether the decision was made of this table and has the sequence number after `seq`: what
-    /// whoever calls [`Table::apply`] asks of a decision that another made. A core applies its own
-    /// alone, so that only tests ask. The cost doesn't grow with the number of devices.
+    /// Whether the decision was made of this table and has the sequence number after `seq`. A
+    /// caller of [`Table::apply`] has to know that a decision from elsewhere was made of this
+    /// table. A core applies only its own, so only tests call this. The cost doesn't grow with the
+    /// number of devices.
     pub fn admits(&self, seq: u64, decision: &Decision) -> bool
         ensures { IsTrue result ↔ Continues self.now seq decision.now }
     {
@@ -36,7 +37,7 @@ impl Table {
         self.net_id() == decision.net_id && u64::from(decision.slot) < self.slots().get()
     }
 
-    // Whether the record that the decision leaves has its place here.
+    // Whether the record that the decision leaves has its place in this table.
     fn has_place(&self, decision: &Decision) -> bool
         ensures { IsTrue result ↔ HasPlace self.now decision.now.slot decision.now.after
             decision.now.before }
@@ -57,7 +58,7 @@ impl Table {
     }
 
     /// Puts the record of a decision that was made of this table into its slot. After an `Err`,
-    /// which is want of memory, the table is as before.
+    /// which is out of memory, the table is unchanged.
     pub fn apply(&mut self, decision: &Decision) -> Result<(), Refusal>
         requires { FitsTable self.old decision.now }
         ensures { MatchResult result
@@ -70,7 +71,7 @@ impl Table {
     }
 }
 
-// Whether what a slot has is this record, or nothing.
+// Whether a slot has exactly this record, or is empty if there is none.
 pub(crate) fn is_record(before: &Option<Device>, found: Option<&Device>) -> bool
     ensures { IsTrue result ↔ (before.now ≡ option_copied found.entry) }
 {

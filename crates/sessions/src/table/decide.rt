@@ -1,4 +1,4 @@
-// A command becomes a decision, or is refused.
+// Deciding or refusing a command.
 ghost use Rattle.std.specs.Prelude.{◌≡◌, IfOk, MatchResult, slice_get};
 ghost use Rattle.lw_types.specs.declared.refusal.Refusal.TheVariants.{OutOfMemory};
 ghost use Rattle.lw_types.specs.Answer.{Answers};
@@ -21,9 +21,10 @@ pub(crate) struct Stepped {
 }
 
 impl Table {
-    /// Decides a command on this table, as the decision of this sequence number. A refusal of the
-    /// command is answered where its step is refused, whether or not there is memory; for want of
-    /// memory `OutOfMemory` is, for a Join-Request also where another refusal is due.
+    /// Decides a command on this table, as the decision with this sequence number. If the command's
+    /// step is refused, the refusal is returned whether or not memory is available. If memory runs
+    /// out, `OutOfMemory` is returned; for a Join-Request this may also come in place of a refusal
+    /// of the join server.
     pub fn decide(&self, alloc: Global, seq: u64, command: Command) -> Result<Decision, Refusal>
         ensures decides { Decides self.now seq command result }
         ensures fits { IfOk result (λ decision. FitsTable self.now decision) }
@@ -47,8 +48,8 @@ impl Table {
         })
     }
 
-    /// Whether the command would be decided under this sequence number; nothing is decided. A
-    /// refusal of the command is answered as [`Table::decide`] answers it.
+    /// Whether the command would be decided with this sequence number; nothing is decided. A
+    /// refusal is returned as [`Table::decide`] returns it.
     pub fn check(&self, alloc: Global, seq: u64, command: &Command) -> Result<(), Refusal>
         ensures { AnswersTo command.now (step self.now command.now) (λ _ _. Unit {0}) result }
     {
@@ -80,7 +81,7 @@ impl Table {
         }
     }
 
-    // A device is provisioned.
+    // Provisions a device.
     fn provision(&self, alloc: Global, provisioning: &Provisioning) -> Result<Stepped, Refusal>
         ensures { Answers (step self.now (Command.Provision provisioning.now)) IsStepped result }
     {
@@ -92,7 +93,7 @@ impl Table {
         })
     }
 
-    // The slot of a new device, which is the next one.
+    // The slot of a new device: the next one.
     fn new_slot(&self, provisioning: &Provisioning) -> Result<u16, Refusal>
         ensures { result ≡ new_slot self.now (slot_of provisioning.now.dev_eui.0 self.now.devices) }
     {
@@ -107,7 +108,7 @@ impl Table {
     }
 }
 
-// The slot of a device is reported to its application.
+// Reports the slot of a device to its application.
 fn provisioned(alloc: Global, slot: u16, provisioning: &Provisioning) -> Result<Effects, Refusal>
     ensures { MatchResult result
         (λ effects. effects ≡ provisioned_effects slot provisioning.now)

@@ -1,4 +1,4 @@
-// A frame that gateways heard becomes a step of the device that sent it.
+// A frame that gateways heard, as a step of the device that sent it.
 ghost use Rattle.std.specs.Prelude.{◌≡◌, None, Ok, Some, MatchOption, slice_get};
 ghost use Rattle.lw_types.specs.Answer.{Answers};
 ghost use Rattle.phy_payload.specs.Frame.{data_mic_input};
@@ -19,7 +19,7 @@ use region_eu868::is_first_channel;
 use std::alloc::Global;
 use uplinks::{NetworkSlot, ReceivedUplink, Uplink};
 
-/// What the join server is asked, and the device for which it is.
+/// The question to the join server, and the device that it is about.
 #[derive(Clone, Copy)]
 pub struct Question<'a> {
     pub slot: u16,
@@ -28,9 +28,9 @@ pub struct Question<'a> {
 }
 
 impl Table {
-    /// Whether a frame that was heard so would be decided under this sequence number; nothing is
-    /// decided, and neither the frame nor its copies are owned. A refusal is answered as
-    /// [`Table::decide`] answers it.
+    /// Whether a frame with these copies would be decided with this sequence number; nothing is
+    /// decided, and the frame and its copies are only borrowed. A refusal is returned as
+    /// [`Table::decide`] returns it.
     pub fn check_heard(
         &self,
         alloc: Global,
@@ -45,7 +45,7 @@ impl Table {
         Ok(())
     }
 
-    // What is done of a frame that gateways heard.
+    // What a frame that gateways heard does.
     pub(crate) fn hear(
         &self,
         alloc: Global,
@@ -64,9 +64,9 @@ impl Table {
         }
     }
 
-    /// The question to the join server of a Join-Request, under the number of the decision that it
-    /// would lead to. `None` where no device has its DevEUI. A decision asks it; others than tests
-    /// have no need to.
+    /// The question to the join server for a Join-Request, numbered as the decision to which it
+    /// would lead. `None` if no device has its DevEUI. A decision asks it; otherwise only tests
+    /// need it.
     pub fn question(&self, seq: u64, request: &JoinRequestBytes) -> Option<Question<'_>>
         ensures { MatchOption result
             (slot_of (dev_eui_of request.now) self.now.devices ≡ None)
@@ -77,7 +77,7 @@ impl Table {
         Some(Question { slot, device, ask })
     }
 
-    // What is done of a Join-Request, under the number of the decision that it would lead to.
+    // What a Join-Request does, under the number of the decision to which it would lead.
     fn hear_request(
         &self,
         alloc: Global,
@@ -104,7 +104,7 @@ impl Table {
         }
     }
 
-    // What is done of an uplink.
+    // What an uplink does.
     fn hear_uplink(
         &self,
         alloc: Global,
@@ -140,7 +140,7 @@ impl Table {
         }
     }
 
-    // The device with this DevEUI, behind its slot.
+    // The slot of the device with this DevEUI, and the device.
     #[tactic(auto, using(crate::proofs::Placing::found_within, crate::proofs::Placing::found_name))]
     pub(crate) fn device_of(&self, dev_eui: Eui) -> Option<(u16, &Device)>
         ensures { MatchOption result
@@ -154,8 +154,8 @@ impl Table {
     }
 }
 
-// The frame that was heard, where it is served and on a channel on which it may be sent: a
-// Join-Request on one of the first. Takes no memory.
+// The frame that was heard, if it is served and its best copy is on a channel where it may be sent.
+// A Join-Request may be sent on the first channels only. Takes no memory.
 fn receive<'a>(phy_payload: &'a PhyPayload, hearings: &Hearings) -> Result<Served<'a>, Refusal>
     ensures { result ≡ received_in (heard_frame phy_payload.now hearings.now) }
 {
@@ -166,7 +166,7 @@ fn receive<'a>(phy_payload: &'a PhyPayload, hearings: &Hearings) -> Result<Serve
     Ok(served)
 }
 
-// The frame that these bytes are, where it is served. Takes no memory.
+// The frame of these bytes, if it is served. Takes no memory.
 fn read_frame(bytes: &[u8]) -> Result<Served<'_>, Refusal>
     ensures { result ≡ served_frame bytes.now }
 {
@@ -185,7 +185,7 @@ fn read_frame(bytes: &[u8]) -> Result<Served<'_>, Refusal>
     }
 }
 
-// The Join-Request that these bytes are.
+// The Join-Request of these bytes.
 fn request_bytes(bytes: &[u8]) -> JoinRequestBytes
     requires { IsRequest bytes.now }
     ensures { result ≡ bytes.now }
@@ -194,7 +194,7 @@ fn request_bytes(bytes: &[u8]) -> JoinRequestBytes
     JoinRequestBytes::new(bytes.unwrap()).unwrap()
 }
 
-// All of an uplink's frame but its MIC.
+// All of an uplink's frame except its MIC.
 fn without_mic<'a>(bytes: &'a [u8], uplink: &Uplink<'_>) -> &'a [u8]
     requires { served_frame bytes.now ≡ Ok (Served.Uplink uplink.now) }
     ensures { result.now ≡ data_mic_input uplink.now.frame }

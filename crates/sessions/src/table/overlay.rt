@@ -1,4 +1,4 @@
-// Decisions on a table, without their records being put there.
+// Decisions on a table whose records aren't put there.
 ghost use Rattle.std.specs.Prelude.{◌≡◌, ◌≤◌, ◌+◌, ◌↔◌, IsTrue, MatchOption, None, length};
 ghost use Rattle.std.specs.Prelude.{slice_get};
 ghost use Rattle.std.specs.Option.{option_copied};
@@ -12,11 +12,12 @@ use devices::Device;
 use lw_types::Eui;
 
 impl Table {
-    /// The number of the last of decisions that continue what `earlier` ones leave, which fit the
-    /// table and aren't put there yet, where the last of those has the number `seq`; `None` exactly
-    /// where they don't. Each is tried on what those before it leave: that is looked up among its
-    /// own, then among the earlier ones, then in the table. Takes no memory. The cost grows with
-    /// the number of decisions, times that of both runs together, and not with the devices.
+    /// Tries whether `decisions` continue what `earlier` ones leave. The earlier ones fit the table
+    /// but aren't put there yet, and the last of them has the number `seq`. Returns the number of
+    /// the last decision, or `None` exactly if they don't continue. Each decision is tried on what
+    /// those before it leave: the record is looked up among its own batch, then among the earlier
+    /// ones, then in the table. Takes no memory. The cost grows with the number of decisions times
+    /// that of both runs together, and not with the number of devices.
     pub fn continuation_end_behind(
         &self,
         earlier: &[Decision],
@@ -39,8 +40,8 @@ impl Table {
         Some(last)
     }
 
-    // Whether the decision was made of what earlier ones, and its own batch's behind them, leave of
-    // this table, and has the number after `seq`.
+    // Whether the decision was made of what the earlier ones, and then those of its own batch,
+    // leave of this table, and has the number after `seq`.
     fn admits_behind(
         &self,
         earlier: &[Decision],
@@ -73,7 +74,7 @@ impl Table {
     }
 
     // Whether the record that the decision leaves has its place in what the two runs leave of this
-    // table, where it was made on the record there.
+    // table, if it was made of the record there.
     fn has_place_behind(&self, earlier: &[Decision], own: &[Decision], decision: &Decision) -> bool
         requires earlier { FitAll self.now earlier.now }
         requires own { FitAll (with_decisions self.now earlier.now) own.now }
@@ -138,7 +139,7 @@ impl Table {
     }
 }
 
-// What decisions leave at a slot of any table that they fit, where this stood there before.
+// What decisions leave at a slot of any table that they fit, if this was there before.
 fn device_after<'a>(
     before: Option<&'a Device>,
     decisions: &'a [Decision],
@@ -157,7 +158,8 @@ fn device_after<'a>(
     found
 }
 
-// How many devices decisions leave in any table that they fit, where these many were there before.
+// The number of devices that decisions leave in any table that they fit, if this number was there
+// before.
 fn len_after(before: usize, decisions: &[Decision]) -> usize
     ensures { (t : TableState) → FitAll t decisions.now → before ≡ length t.devices
         → result ≡ length (with_decisions t decisions.now).devices }
@@ -171,8 +173,8 @@ fn len_after(before: usize, decisions: &[Decision]) -> usize
     len
 }
 
-// Whether a DevEUI is new in what decisions leave in any table that they fit, where it was new
-// before or wasn't.
+// Whether a DevEUI is new in what decisions leave in any table that they fit, given whether it was
+// new before.
 fn is_new_after(before: bool, decisions: &[Decision], dev_eui: Eui) -> bool
     ensures { (t : TableState) → FitAll t decisions.now
         → (IsTrue before ↔ (slot_of dev_eui.0 t.devices ≡ None))

@@ -1,4 +1,4 @@
-// An application queues an item, or MAC commands, for its device (TS001-1.0.4 §4.3.2, §5).
+// Queueing an item, or MAC commands, for an application's device (TS001-1.0.4 §4.3.2, §5).
 ghost use Rattle.std.specs.Prelude.{◌≡◌, ◌≤◌, ◌<◌, ◌+◌, MatchResult, length, true};
 ghost use Rattle.lw_types.specs.Answer.{Answers};
 ghost use Rattle.lw_types.specs.declared.refusal.Refusal.TheVariants.{OutOfMemory};
@@ -19,7 +19,7 @@ use lw_types::{LONGEST_PAYLOAD, Refusal};
 use std::alloc::Global;
 
 impl Table {
-    // An item is queued.
+    // Queues an item.
     pub(crate) fn queue(&self, alloc: Global, queueing: &Queueing) -> Result<Stepped, Refusal>
         ensures { Answers (step self.now (Command.Queue queueing.now)) IsStepped result }
     {
@@ -36,7 +36,7 @@ impl Table {
         }
     }
 
-    // MAC commands are queued.
+    // Queues MAC commands.
     pub(crate) fn queue_mac(
         &self,
         alloc: Global,
@@ -58,7 +58,7 @@ impl Table {
     }
 }
 
-// An item is queued for the device that it is for.
+// Queues an item for its device.
 fn queue_at(
     alloc: Global,
     device: &Device,
@@ -79,7 +79,7 @@ fn queue_at(
     }
 }
 
-// The device's record with one more item, where there is room for it.
+// The device's record with one more item, if there is room for it.
 fn with_item(
     alloc: Global,
     device: &Device,
@@ -105,7 +105,7 @@ fn with_item(
     Ok((after, effects))
 }
 
-// MAC commands are queued for the device that they are for.
+// Queues MAC commands for their device.
 fn queue_mac_at(
     alloc: Global,
     device: &Device,
@@ -149,7 +149,7 @@ fn with_commands(
     Ok((after, effects))
 }
 
-// The report, for the device's application.
+// The report to the device's application.
 fn report_alone(alloc: Global, device: &Device, report: Report) -> Result<Effects, Refusal>
     ensures { MatchResult result (λ effects. effects ≡ report_effects device.now report)
         (λ e. e ≡ OutOfMemory) }

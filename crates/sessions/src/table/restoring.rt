@@ -1,4 +1,4 @@
-// The table of an older copy is restored.
+// Restoring the table of an older copy.
 ghost use Rattle.std.specs.Prelude.{◌≡◌, ◌∷◌, ◌↔◌, IsSome, IsTrue, MatchResult, None, Some};
 ghost use Rattle.std.specs.Prelude.{option_map};
 
@@ -12,15 +12,16 @@ impl Table {
     ghost use Rattle.sessions.specs.Table.{slot_of};
 
     /// Restores the table of an older copy: the last granted JoinNonce of each device is raised by
-    /// `since`, no device has a session, and all else stays. So devices join again. Refused with
-    /// the DevEUI of the first device that has fewer than `since` JoinNonces left, exactly if there
-    /// is one; then nothing changes. Takes no memory. Its cost grows with the number of devices.
+    /// `since`, and no device has a session. All else stays. So devices have to join again. Refused
+    /// with the DevEUI of the first device that has fewer than `since` JoinNonces left, exactly if
+    /// there is one; then nothing changes. Takes no memory. Its cost grows with the number of
+    /// devices.
     ///
-    /// From then on the table rules out what the network used up before the copy, and after it
-    /// under JoinNonces that are at most `since` above the copy's last one of their device:
-    /// [`a_restored_table_covers`](crate::laws::a_restored_table_covers). Each join counts as one
-    /// JoinNonce, and each earlier restore of the same network as its `since`, unless
-    /// [`raise`](Table::raise) was called for the JoinNonces from which it went on.
+    /// From then on the table rules out every mark that the network used up before the copy. It
+    /// also rules out every later mark whose JoinNonce is at most `since` above the copy's last one
+    /// of the device: [`a_restored_table_covers`](crate::laws::a_restored_table_covers). Each join
+    /// counts as one JoinNonce. Each earlier restore of the same network counts as its `since`,
+    /// unless [`raise`](Table::raise) was called for the JoinNonces from which it went on.
     pub fn restore(&mut self, since: GrantsSince) -> Result<(), Eui>
         ensures { MatchResult result
             (λ _. (spent_device since self.old ≡ None)
@@ -37,9 +38,10 @@ impl Table {
         Ok(())
     }
 
-    /// Counts this session as granted: the last granted JoinNonce of its device is raised to the
-    /// session's unless it is higher already. All else stays. Returns whether the table has the
-    /// device; if not, nothing changes. Takes no memory. Its cost doesn't grow with the devices.
+    /// Counts this session as granted: raises the last granted JoinNonce of its device to the
+    /// session's, unless that is higher already. All else stays. Returns whether the table has the
+    /// device; if not, nothing changes. Takes no memory. Its cost doesn't grow with the number of
+    /// devices.
     pub fn raise(&mut self, session: &SessionName) -> bool
         ensures known { IsTrue result ↔ IsSome (slot_of session.now.dev_eui.0 self.old.devices) }
         ensures raised { self.new ≡ raised_table session.now self.old }

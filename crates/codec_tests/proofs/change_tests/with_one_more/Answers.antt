@@ -3,7 +3,7 @@ use Rattle.devices.specs.Becoming.{AreProvisionedAlike, IsHeardAfter, MayBecome}
 use Rattle.devices.specs.declared.device.Device.{Device}
 use Rattle.codec_tests.proofs.change_tests.with_one_more.Goals as goal
 
--- other numbers, and then one uplink more
+-- other numbers, and then one more uplink
 stepped : (before numbered : Device) (heard : ℕ) → AreProvisionedAlike before numbered → numbered.items ≡ before.items → numbered.heard ≡ before.heard → IsHeardAfter numbered.heard heard
     → MayBecome before (record numbered { heard = heard })
 stepped before numbered heard alike same still moved = record {

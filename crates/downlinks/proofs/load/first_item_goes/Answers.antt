@@ -10,7 +10,7 @@ fit_is : (rate : ℕ) (opts : List ℕ) (item : Item) {opts_len payload_len long
     → nat_le (7 + opts_len + 1 + payload_len) longest ≡ fits rate opts item
 fit_is rate opts item of_opts of_payload of_rate = rw (of_opts, of_payload, of_rate)
 
--- the oldest item goes where it fits
+-- the oldest item is sent if it fits
 goes : (rate : ℕ) (opts : List ℕ) (first : Option Item) (item : Item) (b : Bool) → first ≡ Some item → b ≡ fits rate opts item → b ≡ is_some (if_fits rate opts first)
 goes rate opts first item true is fit = rw (is, ← fit)
 goes rate opts first item false is fit = rw (is, ← fit)

@@ -14,11 +14,11 @@ use Rattle.downlinks.specs.Load.{f_opts_of, is_downlink_due, fitting_item, witho
 use Rattle.downlinks.specs.Reply.{address, answer_step, downlink_fields, more_waits, sending_step}
 use Rattle.downlinks.proofs.reply.answer.Goals as goal
 
--- the call left these, or was refused for want of memory
+-- the call left these, or ran out of memory
 abbrev Leaves : Result (Unit {0}) Refusal → Device → List Effect → List Effect → DeviceStep → Type 0
 Leaves r d before effects o = MatchResult r (λ _. (d ≡ o.device) × (effects ≡ before ++ o.effects)) (λ e. e ≡ OutOfMemory)
 
--- where a downlink is due and a counter is left, these fields are the answer
+-- if a downlink is due and a counter is left, these fields are the answer
 is_sent : (net_id slot : ℕ) (d left : Device) (c : CurrentSession) (asked : Demand) (addr : DevAddr) (opts : List ℕ) (going : Option Item) (pending : Bool)
     → is_downlink_due d asked ≡ true → (c.next_down == 2 ^ 32) ≡ false → opts ≡ f_opts_of d asked → going ≡ fitting_item d asked → left ≡ without_load d asked → pending ≡ more_waits left
     → addr ≡ address net_id slot c → sending_step addr left c asked.best (downlink_fields opts going asked.confirmed pending) ≡ answer_step net_id slot d c asked

@@ -9,7 +9,7 @@ use Rattle.devices.specs.declared.mark.SessionName.{SessionName}
 use Rattle.downlinks.specs.Reply.{name_of}
 use Rattle.downlinks.proofs.reply.send.Goals as goal
 
--- the device's record with these sessions, where this tag is awaited
+-- the device's record with these sessions and this awaited tag
 abbrev left : Device → Option Tag → Grants → Device
 left d tag g = record d { activation = g; awaited = tag }
 

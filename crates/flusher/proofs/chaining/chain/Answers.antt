@@ -20,7 +20,7 @@ use Rattle.flusher.proofs.Starts.{chain_along, chain_leads, no_batch, not_failed
 use Rattle.flusher.proofs.Ends.{why_not}
 use Rattle.flusher.proofs.chaining.chain.Goals as goal
 
--- no batch takes no call
+-- without a batch no call is made
 for_none : (room : ℕ) (o n : Outlook) → HaveSucceeded room o n → HaveSucceeded (room + 0) o n
 for_none room o n is = subst (λ k. HaveSucceeded k o n) (let same : room ≡ room + 0 = omega arith in same) is
 

@@ -10,7 +10,7 @@ use Rattle.flusher.proofs.Calling.{no_calls, none_then, none_yet, one_call, one_
 use Rattle.flusher.proofs.Holding.{held_along, on_refused}
 use Rattle.flusher.proofs.checkpointing.publish.Goals as goal
 
--- one is left at least
+-- at least one is left
 some_left : (s : StoreState) (publishing : Publishing) → 1 ≤ calls_left s publishing
 some_left s (Begun phase) = by s.log.other_open
   where

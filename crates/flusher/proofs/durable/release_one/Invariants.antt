@@ -1,4 +1,5 @@
--- the effects that were added and those that are left are all of them, and there is room for the others
+-- the effects that were added and those that are left are all effects, and there is room for the
+-- others
 use Rattle.std.proofs.Common.{◌≡◌, ◌≤◌, ◌+◌, ◌++◌, length, vec_capacity}
 use Rattle.flusher.specs.Released.{effects_of_all}
 use Rattle.flusher.proofs.durable.release_one.Given as goal

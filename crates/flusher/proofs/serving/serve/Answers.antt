@@ -16,7 +16,7 @@ use Rattle.flusher.proofs.Leading.{chains_then, counts_then, nothing_yet, leaves
 use Rattle.flusher.proofs.serving.serve.Goals as goal
 use Rattle.flusher.proofs.serving.serve.Goals.{else-branch-eq0-via-then-branch-eq0+else-done, else-branch-eq0-via-else-branch-eq0}
 
--- a chain's answer and its bound, by other names
+-- a chain's result and its bound, by other names
 last_as : {D F C V : Type 0} {disk : Ghosts D} {gives : FeedGives F} {effects : V → List Effect}
     {call : C → V → C → Type 0} {most bound : ℕ} {old new : Store D disk} {old_feed new_feed : F}
     {old_out new_out : C} {result answer : Result ℕ Refusal} → bound ≡ most → result ≡ answer
@@ -29,14 +29,14 @@ last_as {D} {F} {C} {V} {disk} {gives} {effects} {call} {most} {bound} {old} {ne
     (subst (λ r. IsChain disk gives effects call bound old new old_feed new_feed old_out new_out r)
     is_answer chain)
 
--- behind a chain without a batch it was asked whether all is done
+-- after a chain without a batch it was asked whether all is done
 asked : {S : Type 0} (f : Mut S (Unit {0}) Bool) (count : ℕ) (old new mid : S) (answer : Bool) → count ≡ 0 → answer ≡ false → Called f old tt answer mid → new ≡ mid
     → GoesOnBehind (λ before answer after. Called f before tt answer after) old count new
 asked f count old new mid answer none not_yet is same =
     subst (λ n. GoesOnBehind (λ before answer after. Called f before tt answer after) old n new) (sym none)
     (subst (λ s. Called f old tt false s) (sym same) (subst (λ b. Called f old tt b mid) not_yet is))
 
--- and behind one with a batch it wasn't
+-- and after one with a batch it wasn't
 unasked : {S : Type 0} (f : Mut S (Unit {0}) Bool) (count : ℕ) (old new : S) → 0 < count → new ≡ old
     → GoesOnBehind (λ before answer after. Called f before tt answer after) old count new
 unasked f zero old new some same = absurd (omega (arith, some))

@@ -1,5 +1,5 @@
--- Both closures can be called again, lives have led the store here, and chains have,
--- behind each of which it was asked whether all is done.
+-- Both closures can be called again. Lives have led the store here. Chains have too, after each of
+-- which it was asked whether all is done.
 use denote.Param.Always.{always_mut}
 use denote.Param.Members.{Called}
 use Rattle.std.proofs.Common.{Vec, Global, ℕ, List, Ok, map}

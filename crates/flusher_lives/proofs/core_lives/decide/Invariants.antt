@@ -1,5 +1,5 @@
--- The closure can be called again; all that was committed so far is a beginning of what the core decided; and as many
--- chains were made as were counted.
+-- The closure can be called again. All that was committed so far is a beginning of what the core
+-- decided. As many chains were made as were counted.
 use denote.Param.Always.{always_mut}
 use denote.Param.Members.{Called}
 use Rattle.std.proofs.Common.{◌≡◌, ◌≤◌, Vec, Global, ℕ, List, Ok, length, map}

@@ -1,4 +1,5 @@
--- The closure can be called again; the lives so far and those that are left are all; and those so far kept what was decided.
+-- The closure can be called again. The lives so far and those that are left are all lives. Those so
+-- far kept what was decided.
 use denote.Param.Always.{always_mut}
 use denote.Param.Members.{Called}
 use Rattle.std.proofs.Common.{Vec, Global, List, ◌≡◌, ◌++◌}

@@ -1,4 +1,5 @@
--- The closure can be called again, lives have led the store here, and as many chains have as were counted.
+-- The closure can be called again. Lives have led the store here, and so have as many chains as
+-- were counted.
 use denote.Param.Always.{always_mut}
 use denote.Param.Members.{Called}
 use Rattle.std.proofs.Common.{◌≡◌, ◌≤◌, Vec, Global, ℕ, List, Ok, length, map}

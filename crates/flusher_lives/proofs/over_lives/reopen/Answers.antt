@@ -20,7 +20,7 @@ may_be_left : (crash : Option Image) (old left : State) → MatchOption crash (l
 may_be_left None old left same = subst (λ (s : State). IsPermitted s left.content) same (content_is_left left)
 may_be_left (Some image) old left is = is.permitted
 
--- and what holds that holds what the disk did
+-- and what holds that holds what the disk held
 still_held : (crash : Option Image) (old left back : State) → MatchOption crash (left ≡ old) (λ image. IsLeftBy image old left) → HoldsOn left back → HoldsOn old back
 still_held None old left back same on = subst (λ (s : State). HoldsOn s back) same on
 still_held (Some image) old left back is on = holds_on_from old left back is.permitted is.settled.nothing_open on

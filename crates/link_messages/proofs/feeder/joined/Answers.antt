@@ -4,7 +4,7 @@ use Rattle.std.proofs.lemmas.Slice.{take-put_mid}
 use borrow.Rule.Slice.PartMut.{put_mid}
 use Rattle.link_messages.proofs.feeder.joined.Goals as goal
 
--- what stands in front of the buffer after both were written
+-- the front of the buffer after both were written
 written : (kept front one two rest : List ℕ) (k : ℕ) → one ≡ kept → two ≡ front
     → take (length kept + length front) (put_mid (length kept) k (one ++ rest) two) ≡ kept ++ front
 written kept front one two rest k first second =

@@ -7,7 +7,7 @@ use Rattle.link_server.proofs.flushing.mark_links.Goals as goal
 pub loop-application-init : goal.loop-application-init
 loop-application-init c = none_marked c.args.directory.now.applications c.args.links c.args.marks.now
 
--- one application more
+-- one more application
 pub loop-application-preserved : goal.loop-application-preserved
 loop-application-preserved c =
     let l = c.loop-application in

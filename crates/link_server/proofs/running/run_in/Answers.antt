@@ -6,7 +6,7 @@ use Rattle.link_server.specs.Served.{IsLedOn, IsRefused}
 use Rattle.link_server.proofs.running.run_in.Goals.{then-started, else-started}
 use Rattle.link_server.proofs.running.run_in.Goals as goal
 
--- where each thread is there, the flusher led the store on; else it is as it was
+-- if each thread runs, the flusher led the store on; otherwise it is unchanged
 pub returns : goal.returns
 returns g c =
     let failures = g.D.Disk.failures in

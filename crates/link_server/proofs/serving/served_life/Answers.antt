@@ -17,7 +17,7 @@ returns-clause-shares g c =
       | in-Err w ↦ subst HasSum (sym w.result-is) (tt {0})
     ]
 
--- what is told of how a life ended
+-- what is reported of how a life ended
 abbrev IsTold : Result ℕ Refusal → Result LifeReport ServeFault → Type 0
 IsTold ended result = IfOk ended (λ taken. MatchResult result (λ report. report.made ≡ taken) IsUntold)
 

@@ -13,6 +13,6 @@ is_text Status = (codes "status", (refl, refl))
 is_text Devices = (codes "devices", (refl, refl))
 is_text Watch = (codes "watch", (refl, refl))
 
--- what is no text is no word of an order
+-- bytes that are no text are no word of an order
 pub returns-in-Err : goal.returns-in-Err
 returns-in-Err c order same = absurd (c.in-Err.ensures.cases.0 (subst IsUtf8 (sym same) (is_text order)))

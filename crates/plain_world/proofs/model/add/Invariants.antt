@@ -1,4 +1,4 @@
--- so many of the commands were added
+-- this number of the commands were added
 use Rattle.std.proofs.Common.{◌≡◌, ◌++◌, take}
 use Rattle.plain_world.proofs.model.add.Given as goal
 

@@ -9,7 +9,7 @@ use Rattle.record_codec.specs.declared.version.RecordVersion.TheVariants.{V1, V2
 use Rattle.record_codec.proofs.Loop.{seven_written}
 use Rattle.record_codec.proofs.device_record.put_device.Goals as goal
 
--- a version that tells all of a device has room for its queue, and its count
+-- a version that can express a device has room for its queue and its count
 has_room : (v : RecordVersion) (d : Device) → IsToldBy v d → length d.mac_queue ≤ LONGEST_MAC_QUEUE → length d.mac_queue ≤ longest_mac_queue v
 has_room V1 d told few = told.mac_queue
 has_room V2 d told few = few

@@ -1,4 +1,4 @@
--- where those that are left come into their rings, all have; and what came so far is marked
+-- if the remaining ones are put into their rings, all are; and the rings of those so far are marked
 use Rattle.std.proofs.Common.{ℕ, ◌≡◌, ◌+◌, ◌≤◌, List, length}
 use Rattle.flusher.specs.Released.{effects_of_all}
 use Rattle.server_links.specs.Routing.{AreMarked, IsRouted}

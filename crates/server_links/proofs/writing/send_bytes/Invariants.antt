@@ -1,4 +1,4 @@
--- What is gone from the bytes was written.
+-- What was removed from the bytes was written.
 use Rattle.std.proofs.Common.{◌≡◌, ◌++◌, ℕ, List}
 use Rattle.std.specs.Io.KnownBytes.{Appends}
 use Rattle.outbox.specs.Ring.{taken_from}

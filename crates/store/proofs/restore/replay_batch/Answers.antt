@@ -12,7 +12,7 @@ use Rattle.store_layout.specs.Entries.{EntryValue, Replay, ReplayGoesOn}
 use Rattle.store.specs.Image.{IsBatchOn}
 use Rattle.store.proofs.restore.replay_batch.Goals as goal
 
--- what replays is the batch, where its number and its count are in order
+-- what replays is the batch, if its number and its count are in order
 replayed : {U : Type 0} (v : RecordVersion) (t now : TableState) (seq : ℕ) (b : BatchValue) (r : Result U Refusal)
     → ((u u' : TableState) (es fs : List EntryValue) → Replay v t b.entries b.entry_count es u → Replay v t b.entries b.entry_count fs u' → u ≡ u')
     → ((es : List EntryValue) (u : TableState) → Replay v t b.entries b.entry_count es u → IsBatchOn v t seq b es u)

@@ -1,4 +1,4 @@
--- the batches so far lead here, and all of them wherever those that are left lead from here
+-- the batches so far lead here, and all of them lead wherever those that are left lead from here
 use Rattle.std.proofs.Common.{◌↔◌, ℕ, drop, take}
 use Rattle.sessions.specs.Table.{TableState}
 use Rattle.store.specs.Image.{BatchesLead}

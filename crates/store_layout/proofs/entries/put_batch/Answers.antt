@@ -6,7 +6,7 @@ use Rattle.record_codec.specs.Version.{newest}
 use Rattle.store_layout.specs.Entries.{AreEntries, AreEntriesOf, EntryValue, IsEntry, IsEntryOf, SpellsEntriesOf, entries, entry}
 use Rattle.store_layout.proofs.entries.put_batch.Goals as goal
 
--- one decision's entry more
+-- the entry of one more decision
 entries_behind : (v : RecordVersion) (es : List EntryValue) (e : EntryValue) → entries v es ++ entry v e ≡ entries v (es ++ e ∷ [])
 entries_behind v [] e = sym (append-nil (entry v e))
 entries_behind v (f ∷ es) e = append_assoc (entry v f) (entries v es) (entry v e) ∙ ap (λ (t : List ℕ). entry v f ++ t) (entries_behind v es e)

@@ -1,4 +1,4 @@
--- what was appended and the entries of the devices that are left are those of all
+-- what was appended and the entries of the remaining devices are the entries of all
 use Rattle.std.proofs.Common.{◌≡◌, ◌++◌, drop}
 use Rattle.record_codec.specs.Version.{newest}
 use Rattle.store_layout.specs.Entries.{AreEntries, entries, entries_from}

@@ -13,7 +13,7 @@ use Rattle.store_layout.specs.Entries.{LeavesRecord}
 use Rattle.store_layout.specs.Entries.EntryValue.{Changed}
 use Rattle.store_layout.proofs.replaying.changed_record.Goals as goal
 
--- what a change leaves is what was read of it
+-- what a change leaves is what was read from it
 left : (v : RecordVersion) (t : TableState) (slot : ℕ) (before : Device) (change : List ℕ) (r : Result Device Refusal) → slice_get t.devices slot ≡ Some before
     → IfOk r (λ after. IsChangeOf v before after change) → ((after : Device) → IsChangeOf v before after change → MatchResult r (λ found. found ≡ after) (λ e. e ≡ OutOfMemory))
     → IfErr r (λ e. (e ≡ OutOfMemory) ⊎ (e ≡ Damaged))
@@ -36,7 +36,7 @@ returns-in-None-clause-left c other = (
       none-some is.0 (sym (slice_get_past c.args.table.now.devices c.args.slot (omega arith)) ∙ is.1),
 )
 
--- memory runs out for changes of the record at the slot alone
+-- memory runs out only for changes of the record at the slot
 wanted : (v : RecordVersion) (t : TableState) (slot : ℕ) (before : Device) (change : List ℕ) (r : Result Device Refusal) → slice_get t.devices slot ≡ Some before
     → (r ≡ Err OutOfMemory → IsSomeChange v before change) → IfErr r (λ e. e ≡ OutOfMemory → (after : Device) × LeavesRecord v t (Changed slot change) after)
 wanted v t slot before change (Ok after) at memory = tt

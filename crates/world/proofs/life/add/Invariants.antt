@@ -1,4 +1,5 @@
--- the effects that were added and those that are left are all of them, and there is room for the others and no less than before
+-- the effects that were added and those that are left are all effects, and there is room for the
+-- others and no less than before
 use Rattle.std.proofs.Common.{◌≡◌, ◌++◌, ◌+◌, ◌≤◌, length, vec_capacity}
 use Rattle.world.proofs.life.add.Given as goal
 

@@ -1,5 +1,5 @@
--- what the messages that are left hand in comes behind what was handed in so far; where all of them
--- hand in nothing, so do those that are left
+-- the events of the messages that are left come after the events so far; if all messages have none,
+-- so have those that are left
 use Rattle.std.proofs.Common.{◌++◌, [], List}
 use Rattle.world.specs.declared.event.Event.{Event}
 use Rattle.world.specs.Links.{AreHandedIn}

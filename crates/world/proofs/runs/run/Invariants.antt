@@ -1,4 +1,5 @@
--- The world is sound, each step so far has its right answer and led here, and there is room for the other answers.
+-- The world is sound, each step so far has its right answer and led here, and there is room for the
+-- other answers.
 use Rattle.std.proofs.Common.{◌≡◌, ◌≤◌, length, take, vec_capacity}
 use Rattle.world.specs.Calls.{ForetellsAll}
 use Rattle.world.specs.Follows.{Runs}

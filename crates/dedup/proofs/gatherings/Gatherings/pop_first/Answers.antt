@@ -18,7 +18,7 @@ same c = elim c.if-is_empty.branch [
   | else-is_empty w ↦ rw w.self-inside-is c.self.view_is
 ]
 
--- and where the older are none then, there are none at all
+-- and if the older map is empty then, there are no windows at all
 no_more : (c : goal.After-pop) → length c.if-is_empty.self-inside.older.entries ≡ 0 → c.if-is_empty.self-inside.newer.entries ≡ []
 no_more c = elim c.if-is_empty.branch [
   | then-is_empty w ↦ λ none. rw w.self-inside-is (rw w.swap.ensures.y_after (empty_maps c.self.inside.older.entries (c.is_empty.ensures.0 w.if-is_empty.true)))

@@ -1,4 +1,5 @@
--- the effects that were released and those of the decisions that are left are all of them, and there is room for the others
+-- the effects that were released and those of the remaining decisions are all effects, and there is
+-- room for the others
 use Rattle.std.proofs.Common.{◌≡◌, ◌≤◌, ◌+◌, ◌*◌, ◌++◌, length, vec_capacity}
 use Rattle.sessions.specs.Decision.{effects_in}
 use Rattle.flusher.specs.Released.{decisions_of, effects_of_all}

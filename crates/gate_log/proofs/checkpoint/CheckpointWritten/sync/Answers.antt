@@ -3,7 +3,8 @@ use Rattle.gate_log.specs.Log.{log_state}
 use Rattle.gate_log.proofs.Steps.{checkpoint_synced, synced_images}
 use Rattle.gate_log.proofs.checkpoint.CheckpointWritten.sync.Goals as goal
 
--- What the sync gives is searched for, so that a body without one is refused for what it lacks.
+-- What the sync gives is searched for, so that a body without the sync is refused for what is
+-- missing.
 pub returns-clause-next : goal.returns-clause-next
 returns-clause-next g c honest held header records written =
     checkpoint_synced (log_state g.D.Disk.state c.args.log.now) held header records c.args.self.front _ written (grind arith) (grind arith)

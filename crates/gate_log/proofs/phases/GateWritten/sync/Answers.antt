@@ -4,7 +4,8 @@ use Rattle.gate_log.specs.Log.{log_state}
 use Rattle.gate_log.proofs.Steps.{batch_at_rest, settled_images}
 use Rattle.gate_log.proofs.phases.GateWritten.sync.Goals as goal
 
--- What the sync gives is searched for, so that a body without one is refused for what it lacks.
+-- What the sync gives is searched for, so that a body without the sync is refused for what is
+-- missing.
 pub returns-clause-next : goal.returns-clause-next
 returns-clause-next g c honest held b written =
     batch_at_rest (log_state g.D.Disk.state c.args.log.now) held b c.args.self.size _ written (grind arith) (grind arith)

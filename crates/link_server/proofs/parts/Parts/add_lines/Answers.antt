@@ -4,7 +4,7 @@ use Rattle.outbox.specs.declared.ends.Outlet.{Outlet}
 use Rattle.link_server.proofs.Making.{rings_with_one_more}
 use Rattle.link_server.proofs.parts.Parts.add_lines.Goals as goal
 
--- one ring more, behind those of the links
+-- one more ring, after those of the links
 pub loop-application-preserved : goal.loop-application-preserved
 loop-application-preserved g c =
     let (count, (added, (stand, are))) = c.loop-application.invariant in

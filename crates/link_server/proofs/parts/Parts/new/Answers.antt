@@ -6,7 +6,7 @@ use Rattle.link_server.specs.declared.parts.LinkParts.{LinkParts}
 use Rattle.link_server.proofs.Making.{rings_with_one_more}
 use Rattle.link_server.proofs.parts.Parts.new.Goals as goal
 
--- one link more, with the two ends of one ring
+-- one more link, with the two ends of one ring
 pub loop-number-preserved : goal.loop-number-preserved
 loop-number-preserved g c =
     let (left, (count, (are, paired))) = c.loop-number.invariant in

@@ -1,4 +1,4 @@
--- Where the threads are whole, so many attendants were added.
+-- If the threads are whole, this number of attendants were added.
 use Rattle.std.proofs.Common.{◌≡◌, ◌+◌, length}
 use Rattle.std.specs.Prelude.{IsTrue}
 use Rattle.link_server.proofs.running.Started.start_attendants.Given as goal

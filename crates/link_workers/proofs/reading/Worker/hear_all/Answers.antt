@@ -4,7 +4,7 @@ use Rattle.link_workers.specs.Hearing.{IsOneHeard}
 use Rattle.link_workers.proofs.Heard.{one_more, split_on}
 use Rattle.link_workers.proofs.reading.Worker.hear_all.Goals as goal
 
--- the link is read no further behind a message
+-- the link is read no further after a message
 pub returns-then-not-hear-clause-heard : goal.returns-then-not-hear-clause-heard
 returns-then-not-hear-clause-heard g c =
     let ((heard, (split, are)), same) = c.loop-message.invariant in
@@ -23,7 +23,7 @@ returns-then-not-hear-clause-heard g c =
       ),
     )
 
--- one message more was heard
+-- one more message was handled
 pub loop-message-preserved : goal.loop-message-preserved
 loop-message-preserved g c =
     let ((heard, (split, are)), same) = c.loop-message.invariant in

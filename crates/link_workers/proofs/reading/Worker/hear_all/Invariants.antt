@@ -1,4 +1,4 @@
--- The messages that aren't left were heard.
+-- The messages that aren't left were handled.
 use Rattle.std.proofs.Common.{◌≡◌, ◌++◌, List}
 use Rattle.link_messages.specs.declared.message.Message.{Message}
 use Rattle.link_workers.specs.Hearing.{AreHeard}

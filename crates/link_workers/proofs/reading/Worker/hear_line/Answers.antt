@@ -6,7 +6,7 @@ use Rattle.link_workers.specs.Hearing.{IsAnswered, IsOneHeard}
 use Rattle.link_workers.proofs.Heard.{not_asked}
 use Rattle.link_workers.proofs.reading.Worker.hear_line.Goals as goal
 
--- nobody asks
+-- the peer is no application
 pub returns-in_default-clause-heard : goal.returns-in_default-clause-heard
 returns-in_default-clause-heard g c =
     not_asked c.args.self.now.feeder.peer c.args.line.now c.args.self.now.seat c.args.self.now.refusals
@@ -14,7 +14,7 @@ returns-in_default-clause-heard g c =
     let found : c.asking.result ≡ Some application = c.asking.ensures.found application (c.peer.ensures ∙ is) in
     cc)
 
--- who asks is answered, and told
+-- an application is answered
 pub returns-clause-heard : goal.returns-clause-heard
 returns-clause-heard g c =
     let before = c.args.self.now in

@@ -2,7 +2,7 @@ use Rattle.std.proofs.Common.{◌≡◌, ◌∙◌, refl, sym}
 use Rattle.link_workers.proofs.Heard.{all_heard}
 use Rattle.link_workers.proofs.reading.Worker.hear_piece.Goals as goal
 
--- all that became whole was heard
+-- all messages that became whole were handled
 pub returns-in-Ok-clause-heard : goal.returns-in-Ok-clause-heard
 returns-in-Ok-clause-heard g c read_on =
     let (heard, (left, (split, (are, none)))) = c.hear_all.ensures.heard in

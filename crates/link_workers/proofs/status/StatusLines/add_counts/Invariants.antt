@@ -1,4 +1,4 @@
--- The lines so far were added, or want of memory was there before.
+-- The lines so far were added, or memory ran out before.
 use Rattle.std.proofs.Common.{◌≡◌, ◌++◌, ℕ, List, take}
 use denote.Ref.{Bor}
 use Rattle.std.specs.List.{flat_map}

@@ -1,4 +1,4 @@
--- so many copies that joined are heard
+-- this number of copies that joined are heard
 use Rattle.std.proofs.Common.{◌≡◌, ◌∷◌, map, take}
 use Rattle.dedup.specs.Windows.{hearing_of}
 use Rattle.plain_world.proofs.gathering.PlainWindow.of.Given as goal

@@ -1,4 +1,5 @@
--- only the course has moved, and the commands that are left do to it what all of them do to the first one
+-- only the course has moved, and the commands that are left do to it what all of them do to the
+-- first one
 use Rattle.std.proofs.Common.{◌≡◌, drop}
 use Rattle.world.specs.Course.{after_commands}
 use Rattle.plain_world.specs.Plain.{at_course}

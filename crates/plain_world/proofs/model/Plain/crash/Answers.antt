@@ -39,7 +39,7 @@ landed old calls settled untaken emitted arrivals pieces =
       };
     }
 
--- the durable batches are left, and the one behind them is there or not
+-- the durable batches are left, and the one after them is left or not
 doubt : (flew : Bool) (with_it without : List Command) → (cond flew with_it without ≡ without) ⊎ (cond flew with_it without ≡ with_it)
 doubt true with_it without = inr refl
 doubt false with_it without = inl refl

@@ -1,4 +1,5 @@
--- The events that have their turns and those that are left are all of them, and the turns lead to the course.
+-- The events that have had their turns and those that are left are all events, and the turns lead
+-- to the course.
 use Rattle.std.proofs.Common.{◌≡◌, ◌++◌, map}
 use Rattle.world.specs.Answers.{event_of}
 use Rattle.plain_world.specs.Plain.{at_course}

@@ -3,7 +3,7 @@ use Rattle.outbox.specs.Ring.{taken_from}
 use Rattle.server_links.proofs.writing.Sender.gather_effects.Goals.{then-is_none, else-is_none}
 use Rattle.server_links.proofs.writing.Sender.gather_effects.Goals as goal
 
--- where nobody has greeted, nothing is taken
+-- if the peer hasn't greeted, nothing is taken
 pub returns-in_default-clause-gathered : goal.returns-in_default-clause-gathered
 returns-in_default-clause-gathered g c =
     let before = c.args.self.now in

@@ -5,7 +5,7 @@ use Rattle.server_links.proofs.Answered.{added_or_same, answered_one}
 use Rattle.server_links.proofs.writing.Sender.gather_refusals.Goals.{then-not-self, else-not-self}
 use Rattle.server_links.proofs.writing.Sender.gather_refusals.Goals as goal
 
--- one refusal more, answered or not
+-- one more refusal, answered or not
 pub loop-preserved : goal.loop-preserved
 loop-preserved g c =
     let (have, (many, (inlet, (broken, (keeps, name))))) = c.loop.invariant in

@@ -1,4 +1,4 @@
--- What came out of the ring so far was answered; all else stays as it is.
+-- What came out of the ring so far was answered; everything else is unchanged.
 use Rattle.std.proofs.Common.{◌≡◌, ◌+◌, length}
 use Rattle.rtrb.specs.Ring.{received}
 use Rattle.server_links.specs.Sending.{HaveAnswered}

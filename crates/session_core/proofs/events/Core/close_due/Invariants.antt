@@ -1,4 +1,4 @@
--- so many windows were closed
+-- this number of windows were closed
 use Rattle.std.proofs.Common.{◌≡◌, ◌+◌, length}
 use Rattle.session_core.specs.Events.{Closes}
 use Rattle.session_core.proofs.events.Core.close_due.Given as goal

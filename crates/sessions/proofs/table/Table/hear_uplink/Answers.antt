@@ -14,7 +14,7 @@ use Rattle.sessions.proofs.Frames.{step-uplink, uplink-received}
 use Rattle.sessions.proofs.Exact.{exact-ok, exact-refused}
 use Rattle.sessions.proofs.table.Table.hear_uplink.Goals as goal
 
--- the device that was looked up stands at the slot
+-- the device that was looked up is at the slot
 looked_up : (devices found : List Device) (slot : ℕ) (d : Device) → found ≡ devices → true ≡ nat_lt slot (length found) → d ≡ get_or found slot d
     → slice_get devices slot ≡ Some d
 looked_up devices found slot d same within at =

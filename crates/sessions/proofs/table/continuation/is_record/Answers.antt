@@ -6,7 +6,7 @@ use Rattle.sessions.proofs.table.continuation.is_record.Goals as goal
 same-device : (a b : Device) → ◌≡◌ {A = Option Device} (Some a) (Some b) → a ≡ b
 same-device a b h = cc
 
--- two records are the same where both are there and are the same
+-- two records are the same if both exist and are the same
 both : (r : Bool) (a b : Device) (before found : Option Device) → before ≡ Some a → found ≡ Some b → (IsTrue r ↔ (a ≡ b)) → IsTrue r ↔ (before ≡ found)
 both r a b before found at-before at-found same = rw (at-before, at-found) (λ t. ap (λ (x : Device). Some x) (same.0 t), λ h. same.1 (same-device a b h))
 

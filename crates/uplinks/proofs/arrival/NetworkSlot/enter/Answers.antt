@@ -15,7 +15,7 @@ use Rattle.uplinks.specs.declared.fit.Fit.TheVariants.{First, Next}
 use Rattle.uplinks.specs.declared.uplink.Uplink.{Uplink}
 use Rattle.uplinks.proofs.arrival.NetworkSlot.enter.Goals as goal
 
--- the uplink was taken, or refused for want of memory
+-- the uplink was taken, or memory ran out
 abbrev Takes : ℕ → ℕ → Device → Uplink → ℕ → Hearing → Result (Device × List Effect) Refusal → Fit → Type 0
 Takes net_id slot d u copies best r fit = MatchResult r (IsDeviceStep (uplink_step net_id slot d fit u copies best)) (λ e. e ≡ OutOfMemory)
 

@@ -14,18 +14,18 @@ use Rattle.uplinks.specs.declared.uplink.Uplink.{Uplink}
 use Rattle.uplinks.specs.Accepted.{is_acknowledgement, demand_of, sent_commands, forward_effects, mac_report, awaited_report, with_effects, with_uplink}
 use Rattle.uplinks.proofs.arrival.NetworkSlot.take.Goals as goal
 
--- the call left these, or was refused for want of memory
+-- the call left these, or ran out of memory
 abbrev Leaves : Result (Unit {0}) Refusal → Device → List Effect → DeviceStep → Type 0
 Leaves r d effects o = MatchResult r (λ _. (d ≡ o.device) × (effects ≡ o.effects)) (λ e. e ≡ OutOfMemory)
 
--- what is told before the answer stands before its effects
+-- the reports before the answer come before its effects
 after : (r : Result (Unit {0}) Refusal) (d : Device) (effects before told : List Effect) (o wanted : DeviceStep) → before ≡ told → o ≡ wanted
     → Leaves r d effects (device_step o.device (before ++ o.effects)) → Leaves r d effects (with_effects told wanted)
 after (Ok _) d effects before told o wanted same is h =
     (h.0 ∙ ap (λ (w : DeviceStep). w.device) is, h.1 ∙ (ap (λ (l : List Effect). l ++ o.effects) same ∙ ap (λ (w : DeviceStep). told ++ w.effects) is))
 after (Err e) d effects before told o wanted same is h = h
 
--- what is told is told in three steps
+-- the reports are made in three steps
 in_order : (a b d before told more handed : List Effect) → before ≡ [] → told ≡ before ++ a → more ≡ told ++ b → handed ≡ more ++ d → handed ≡ a ++ (b ++ d)
 in_order a b d before told more handed none first second third =
     let all : handed ≡ (a ++ b) ++ d = cc in

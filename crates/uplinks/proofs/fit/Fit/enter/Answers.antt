@@ -9,7 +9,7 @@ use Rattle.uplinks.proofs.fit.Fit.enter.Goals as goal
 abbrev with_sessions : Device → Grants → Device
 with_sessions d g = record d { activation = g }
 
--- the pending session is current from now on
+-- the pending session becomes the current one
 abbrev begun : Session → ℕ → Device → Device
 begun s counter d = with_sessions d (with_current d.activation s counter)
 

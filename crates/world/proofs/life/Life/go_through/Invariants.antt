@@ -1,4 +1,5 @@
--- The events that have their turns and those that are left are all of them, and there is room for the other turns.
+-- The events that have had their turns and those that are left are all events, and there is room
+-- for the other turns.
 use Rattle.std.proofs.Common.{◌≡◌, ◌≤◌, ◌+◌, ◌++◌, length, map, vec_capacity}
 use Rattle.world.specs.Answers.{event_of}
 use Rattle.world.specs.Follows.{MovesThrough}

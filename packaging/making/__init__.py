@@ -1,0 +1,1 @@
+"""What bin/package makes the Debian package of: units, man pages, completion, the tree of files."""
