@@ -28,10 +28,10 @@ def heard_by_three(it, made):
     it.line("tick 1199", f"turn {made} {made}")
     it.line("tick 1200", f"turn {made} {made + 1}")
     it.say(
-        "Three gateways hear one Join-Request. The first of them hands it in twice, which is "
-        "refused (21, SameGateway). The window of the frame stays open for 200 ms from its first "
-        "copy, so nothing happens at moment 1199; at 1200 it is closed, and decision 2 grants "
-        "the join."
+        "Three gateways hear one Join-Request. The first gateway hands it in twice, and its "
+        "second copy is refused (21, SameGateway). The frame's window stays open for 200 ms from "
+        "the first copy, so nothing happens at moment 1199. At 1200 the window is closed, and "
+        "decision 2 grants the join."
     )
     return device, best
 
@@ -44,9 +44,9 @@ def joins(it):
     it.line(provision(1), "turn 1 1 refused 16")
     it.commit(1, [told(f"provisioned {METER} 0")])
     it.say(
-        "Application 3 brings a device, with RX1DROffset 0 and an RX delay of 1 s. That is "
-        "decision 1; asked again, it is refused (16, DevEuiTaken). Once the decision is "
-        "committed the application is told that the device has slot 0."
+        "Application 3 provisions a device with RX1DROffset 0 and an RX delay of 1 s. That is "
+        "decision 1. A second request is refused (16, DevEuiTaken). Once the decision is "
+        "committed, the application's line says that the device has slot 0."
     )
     it.part("It joins, and three gateways hear it")
     device, best = heard_by_three(it, 1)
@@ -57,9 +57,9 @@ def joins(it):
     it.downlink(line, device.take_accept)
     it.say(
         "The Join-Accept goes to gateway B2, which has the greatest SNR, with that gateway's "
-        "stamp: in RX1 5 s after the request, on its frequency and at its data rate, or in RX2 "
-        "after 6 s. The list says that JoinNonce 1 was granted, and that no session is in use "
-        "yet: it waits for its first uplink."
+        "stamp. It is due in RX1, 5 s after the request, on its frequency and at its data rate, "
+        "or in RX2 after 6 s. The list says that JoinNonce 1 was granted and that no session is "
+        "in use yet. The new session waits for its first uplink."
     )
     return device, network
 
@@ -78,16 +78,16 @@ def first_uplinks(it, device):
     it.line("list", *listed(1, 0, 0, 0, 1, 3))
     it.say(
         "Two gateways hear the first uplink, counter 0, with a reading on port 7. It is on 867.1 "
-        "MHz, which is one of the channels that the accept has added. Now the session is in use. "
-        "The application gets the payload in clear, with the number of copies and how B1, the best "
-        "of them, heard it. Nothing is due to the device, so no downlink is sent."
+        "MHz, one of the channels that the accept has added. Now the session is in use. The "
+        "application gets the payload in clear, with the number of copies and how B1, the best "
+        "gateway, heard it. Nothing is due to the device, so no downlink is sent."
     )
     it.hear(12_000, near, frame, "turn 3 3")
     it.line("tick 12200", "turn 3 3")
     it.say(
-        "The same frame comes again two seconds later. It opens a window of its own, and where "
-        "that is closed the frame is refused (6, Repeat). Nobody is told; here it can be seen "
-        "only by the turn, which made no decision."
+        "The same frame comes again two seconds later and opens a new window. When that is "
+        "closed, the frame is refused (6, Repeat). No line reports it. Only the turn shows it, "
+        "which made no decision."
     )
 
 
@@ -99,8 +99,8 @@ def acked_item(it, device, network):
     it.line(f"queue 20002 4 {METER} 7001 9 c 0102", "turn 4 4 refused 7")
     it.commit(1, [told(f"queued {METER} 7001")])
     it.say(
-        "The application queues an item under tag 7001, for port 9, to be confirmed by the "
-        "device. Port 0 is refused (15, BadPort), and so is another application (7, "
+        "The application queues an item under tag 7001 for port 9, which the device is to "
+        "acknowledge. Port 0 is refused (15, BadPort), and so is another application (7, "
         "UnknownDevEui)."
     )
     copy = Copy(B1, 867_900_000, 4, 0, -90, 30_000_000)
@@ -111,8 +111,8 @@ def acked_item(it, device, network):
     it.commit(1, [up(1, 7, bytes.fromhex("04D3"), 1, copy), line])
     it.downlink(line, device.take_downlink)
     it.say(
-        "The item leaves with the next uplink. The gateway sends the downlink in RX1, on the "
-        "channel of the uplink and 1 s after its stamp."
+        "The item leaves in the answer to the next uplink. The gateway sends this downlink in "
+        "RX1, on the uplink's channel and 1 s after its stamp."
     )
     copy = replace(copy, stamp=40_000_000)
     frame = device.uplink(7, bytes.fromhex("04D4"), ack=True)
@@ -139,8 +139,8 @@ def lost_item(it, device, network):
     it.commit(1, [told(f"lost {METER} 7002"), up(4, 7, bytes.fromhex("04D6"), 1, copy)])
     it.line("list", *listed(1, 4, 2, 0, 5, 9))
     it.say(
-        "The device misses the downlink with the item of tag 7002. Its next uplink has no ACK, "
-        "so the item is lost: it isn't sent again, and counter 1 isn't used again either."
+        "The device misses the downlink with the item of tag 7002. Its next uplink has no ACK, so "
+        "the item is lost. The item isn't sent again, and counter 1 isn't used again."
     )
 
 
@@ -158,9 +158,10 @@ def commands(it, device, network):
     it.commit(1, [up(5, 7, bytes.fromhex("04D7"), 2, near), line])
     it.downlink(line, device.take_downlink)
     it.say(
-        "The device asks how well it is heard (LinkCheckReq, 02). The answer is 02, the margin "
-        "of the best copy, 3 dB above a floor of -7.5 dB so 10 whole dB, and the number of "
-        "gateways, 2. The application isn't told of this command."
+        "The device asks how well it is heard (LinkCheckReq, 02). The answer is 02, the margin of "
+        "the best copy, and the number of gateways, 2. The best copy has an SNR of 3 dB, above a "
+        "floor of -7.5 dB, so the margin is 10 whole dB. The application gets no line for this "
+        "command."
     )
     it.part("A MAC command is queued and answered")
     it.line(f"mac 75000 3 {METER} 06", "turn 10 11")
@@ -173,16 +174,18 @@ def commands(it, device, network):
     it.commit(2, [told(f"macqueued {METER} 06"), line])
     it.downlink(line, device.take_downlink)
     it.say(
-        "The application queues DevStatusReq (06); 02 isn't one that it may queue (18, BadMac). "
-        "The device sends an empty uplink without a port. The application isn't told of it, but "
-        "the command leaves, in FOpts."
+        "The application queues DevStatusReq (06). It may not queue 02 (18, BadMac). The device "
+        "sends an empty uplink without a port. The application gets no line for it, but the "
+        "command leaves in FOpts."
     )
     near = replace(near, stamp=90_000_000)
     frame = device.uplink(7, bytes.fromhex("04D8"), f_opts=DEV_STATUS_ANS)
     it.hear(90_000, near, frame, "turn 12 12")
     it.line("tick 90200", "turn 12 13")
     it.commit(1, [told(f"mac {METER} 1 06FF0A"), up(7, 7, bytes.fromhex("04D8"), 1, near)])
-    it.say("The device answers: battery FF, unknown, and an SNR of 10 dB. The application is told.")
+    it.say(
+        "The device answers: battery FF, unknown, and an SNR of 10 dB. The application gets this."
+    )
 
 
 def repeats(it, device, network):
@@ -203,9 +206,9 @@ def repeats(it, device, network):
     it.line("list", *listed(1, 8, 6, 0, 9, 15))
     it.downlink(line, device.take_downlink)
     it.say(
-        "So the device sends the frame again, on another channel. It is acknowledged under a "
-        "fresh counter, 5, and not forwarded again. RX1 is 1 s after the stamp, and in between "
-        "the gateway's clock goes back to 0."
+        "So the device sends the frame again, on another channel. The frame is acknowledged under "
+        "a new counter, 5, and isn't forwarded again. RX1 is 1 s after the stamp. In between the "
+        "gateway's clock goes back to 0."
     )
 
 
@@ -214,8 +217,8 @@ def story():
     it = Story(
         "a-device",
         "A device's way",
-        "A meter is provisioned, joins, sends readings, and gets items and MAC commands; frames "
-        "get lost and come again. The power stays on.",
+        "A meter is provisioned, joins, sends readings, and gets items and MAC commands. Some "
+        "frames are lost, and some come again. The power stays on.",
     )
     device, network = joins(it)
     first_uplinks(it, device)

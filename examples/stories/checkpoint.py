@@ -80,9 +80,10 @@ def filled(it, books):
         it.line(f"queue 0 3 {meter} 16 9 u 00", f"turn {books.made} {books.made} refused 12")
         commit(it, books)
     it.say(
-        "For three of them the application queues 16 items of 242 bytes, pieces of an update. A "
-        "seventeenth is refused (12, QueueFull). Nobody hears the devices, so nothing leaves the "
-        "queues. Each decision writes what it changes, here an item, and not the whole record."
+        "For each of three devices the application queues 16 items of 242 bytes, pieces of an "
+        "update. A seventeenth item is refused (12, QueueFull). No gateway hears the devices, so "
+        "nothing leaves the queues. Each decision writes only what it changes, here an item, and "
+        "not the whole record."
     )
 
 
@@ -105,14 +106,14 @@ def cut(it, books):
     books.crashed()
     it.line("list", *books.listed())
     it.say(
-        "A checkpoint writes the durable table into the other area, behind that area's closed "
-        "gate. The power is cut before the sync, and the disk has A5 all over what was written: "
-        f"it doesn't count, since the gate is closed. {lost} decisions waited meanwhile, and are "
-        "lost; nobody had been told of them."
+        "A checkpoint writes the durable table into the other area, after that area's closed "
+        "gate. The power is cut before the sync, and the disk has A5 everywhere the checkpoint "
+        f"wrote. The area doesn't count, since its gate is closed. {lost} decisions waited "
+        "meanwhile and are lost. Nothing of them had left."
     )
     for calls, image, words in (
         (2, "new", "The table is written and synced, and the gate is closed: the old area counts."),
-        (3, "old", "The gate was opened, not synced, and the disk lost it: the old area counts."),
+        (3, "old", "The gate was opened but not synced. The disk lost it: the old area counts."),
     ):
         it.line("checkpoint", "begun")
         it.call(calls)
@@ -122,7 +123,7 @@ def cut(it, books):
     it.call(3)
     it.line("crash new", opened)
     it.say(
-        "Now the disk kept the gate. Both areas are open, and the new one counts, whose "
+        "Now the disk kept the gate. Both areas are open. The new one counts, since its "
         "generation is greater. It holds the same table and number."
     )
 
@@ -134,7 +135,7 @@ def goes_on(it, books):
     commit(it, books)
     it.line("emit", told(f"macqueued {QUIET} {DEV_STATUS_REQ}"))
     it.line("list", *books.listed())
-    it.say("Behind the checkpoint the next decision is committed as ever.")
+    it.say("After the checkpoint the next decision is committed as before.")
     it.line("checkpoint", "begun")
     it.call(6)
     it.line("call", "idle")
@@ -143,8 +144,8 @@ def goes_on(it, books):
     it.line("crash old", f"opened {SLOTS} {books.seq}")
     it.line("list", *books.listed())
     it.say(
-        "The second checkpoint goes back into the first area, whose gate is open and has to be "
-        "closed first: six calls. After a last cut all is there."
+        "The second checkpoint goes into the first area again. That area's gate is open and must "
+        "be closed first, so there are six calls. After a last cut everything is there."
     )
 
 
@@ -153,9 +154,9 @@ def story():
     it = Story(
         "a-checkpoint",
         "A checkpoint, and power cuts in it",
-        "Each decision adds to the journal of the live area, which has a mebibyte. Before it is "
-        "full a checkpoint of the whole table goes into the other area, and the journal begins "
-        "anew behind it. Here it is asked for.",
+        "Each decision adds to the journal of the live area, which has a mebibyte. Before the "
+        "journal is full, a checkpoint writes the whole table into the other area, and a new "
+        "journal begins after it. This script asks for checkpoints earlier.",
     )
     books = Books()
     filled(it, books)

@@ -15,26 +15,25 @@ def joins(it):
     it.line("format 00002A 8", "formatted 2166124")
     it.line(provision(0), "turn 0 1")
     it.say(
-        "A store for network 00002A and 8 devices is made on a disk in memory. Application 3 "
-        "brings its device, a meter: decision 1."
+        "The first line makes a store for network 00002A and 8 devices, on a disk in memory. "
+        "Application 3 provisions its device, a meter: decision 1."
     )
     device = meter()
     request = device.join_request()
     it.hear(1000, NEAR, request, "turn 1 1")
     it.line("tick 1200", "turn 1 2")
     it.say(
-        "A gateway heard a Join-Request, on 868.1 MHz at data rate 5. Other gateways may have "
-        "heard it too, so the network waits for 200 ms; then it decides: the join is granted by "
-        "decision 2."
+        "A gateway heard a Join-Request on 868.1 MHz at data rate 5. Other gateways may have "
+        "heard it, too, so the network waits for 200 ms. Then decision 2 grants the join."
     )
     granted = session(1, device.dev_nonce)
     line = granted.accept(NEAR)
     it.commit(2, [told(f"provisioned {METER} 0"), line])
     it.downlink(line, device.take_accept)
     it.say(
-        "Both decisions are committed in four device calls: they are written, synced, marked as "
-        "valid by one byte, the gate, and that byte is synced. Only then their effects leave: "
-        "the application is told, and the gateway gets the Join-Accept."
+        "Four device calls commit both decisions. They write them, sync them, mark them as valid "
+        "by one byte, the gate, and sync that byte. Only then do the effects leave: the "
+        "application gets its line, and the gateway gets the Join-Accept."
     )
     return device
 
@@ -44,14 +43,17 @@ def cut_off(it, uplink):
     it.part("The power is cut")
     it.hear(9000, NEAR, uplink, "turn 2 2")
     it.line("tick 9200", "turn 2 3")
-    it.say("The device's first uplink, counter 0: its reading 04D2 on port 7. It is decision 3.")
+    it.say(
+        "The device sends its first uplink, counter 0, with the reading 04D2 on port 7: decision "
+        "3."
+    )
     it.take(1)
     it.call(2)
     it.line("crash new", "opened 1 2")
     it.say(
-        "The decision is written and synced, but its gate isn't open: here the power is cut. The "
-        "store opens with one device and decision 2: as nothing of decision 3 had left, it never "
-        "was."
+        "The power is cut when the decision is written and synced, and before its gate is open. "
+        "The store opens with one device and with decision 2. Decision 3 is gone, and nothing of "
+        "it had left."
     )
 
 
@@ -63,10 +65,10 @@ def sends_again(it, uplink):
     it.commit(1, [up(0, 7, READING, 1, NEAR)])
     it.line("list", *listed(1, 0, 0, 0, 1, 3))
     it.say(
-        "Moments and turns begin anew after a crash. The same frame is taken, as its counter is "
-        "still above the last one that the store knows: the application is told the reading, for "
-        "the first and only time. The list has the session of JoinNonce 1, with last uplink "
-        "counter 0 and next downlink counter 0, no item that waits, and decision 3."
+        "Moments and turns begin anew after a crash. The same frame is accepted, since the store "
+        "has no uplink of this session yet. The application gets the reading for the first and "
+        "only time. The list has the session of JoinNonce 1, with last uplink counter 0 and next "
+        "downlink counter 0, no waiting item, one new uplink, and decision 3."
     )
 
 
@@ -75,8 +77,9 @@ def story():
     it = Story(
         "first-uplink",
         "A first uplink, and a power cut",
-        "A device joins and sends its first payload. While the network writes that to its disk, "
-        "the power is cut. The device sends the frame again, and the application is told once.",
+        "A device joins and sends its first payload. The power is cut while the network writes "
+        "that to its disk. The device sends the frame again, and the application gets the payload "
+        "once.",
     )
     device = joins(it)
     uplink = device.uplink(7, READING)

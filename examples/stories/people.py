@@ -26,12 +26,12 @@ def provision(moment):
 
 
 def told(line):
-    """The line of `lns-sim` for what the meter's application is told."""
+    """The line of `lns-sim` for a report to the meter's application."""
     return f"app {APPLICATION} {line}"
 
 
 def up(counter, port, payload, copies, best, join_nonce=1):
-    """The line by which the application is told a payload."""
+    """The line that brings a payload to the application."""
     text = payload.hex().upper() or "-"
     return told(f"up {METER} {join_nonce} {counter} {port} {text} {copies} {best.heard()}")
 

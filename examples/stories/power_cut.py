@@ -43,25 +43,25 @@ def cut_before_the_gate(it, frame):
     sent(it, frame, 20_000, 3)
     it.take(1)
     it.line("crash new", "opened 1 3")
-    it.say("The decision is taken, and no call of the disk was made. After the cut it is gone.")
+    it.say("The decision is taken, but no device call was made. After the cut it is gone.")
     cuts = [
-        (1, "old", "The batch is written, not synced, and the disk kept nothing of it."),
-        (1, "new", "The batch is written, not synced, and the disk kept all. Its gate is closed."),
+        (1, "old", "The batch is written but not synced. The disk kept nothing of it."),
+        (1, "new", "The batch is written but not synced. The disk kept all. Its gate is closed."),
         (
             1,
             "fill",
-            "The batch is written, not synced, and wherever it was written the disk has A5, "
-            "also at the next batch's gate, so that this one reads open. But its own gate is "
-            "closed, and what stands behind a closed gate isn't looked at.",
+            "The batch is written but not synced. The disk has A5 everywhere the batch was "
+            "written. That includes the next batch's gate, which reads open. But the batch's own "
+            "gate is closed, and nothing after a closed gate is read.",
         ),
-        (2, "fill", "The batch is written and synced, so nothing is at stake. Its gate is closed."),
+        (2, "fill", "The batch is written and synced, so it is kept. Its gate is closed."),
     ]
     for calls, image, words in cuts:
         sent(it, frame, 500, 0)
         it.take(1)
         it.call(calls)
         it.line(f"crash {image}", "opened 1 3")
-        it.say(f"The device had no answer and sends again. {words} Decision 4 is gone.")
+        it.say(f"The device got no answer and sends again. {words} Decision 4 is gone.")
 
 
 def before_the_gate():
@@ -69,10 +69,10 @@ def before_the_gate():
     it = Story(
         "power-cut-before-gate",
         "The power is cut before a batch's gate is open",
-        "A commit is four device calls: the batch is written behind a closed gate, synced, the "
-        "gate is opened, and that is synced. Whatever the disk keeps of what was written before "
-        "the gate: the batch doesn't count, and nothing of it had left. So the device may send "
-        "its frame again, as if it had never been heard.",
+        "A commit is four device calls: the batch is written after a closed gate, the batch is "
+        "synced, the gate is opened, and the gate is synced. If the power is cut before the gate "
+        "is opened, the batch doesn't count, however much of it the disk kept. Nothing of it had "
+        "left. So the device may send its frame again, as if it had never been heard.",
     )
     device, network = joined(it)
     reading = bytes.fromhex("04D3")
@@ -85,8 +85,8 @@ def before_the_gate():
     it.line("list", *listed(1, 1, 1, 0, 2, 4))
     it.downlink(line, device.take_downlink)
     it.say(
-        "The sixth time the commit is whole. The application is told the reading once, and the "
-        "device gets its acknowledgement under counter 0, which no frame has had before."
+        "The sixth time the commit is complete. The application gets the reading once, and the "
+        "device gets its acknowledgement under counter 0, which no frame had before."
     )
     return it
 
@@ -99,7 +99,7 @@ def gate_lost_or_kept(it, device, network):
     it.take(1)
     it.call(3)
     it.line("crash old", "opened 1 3")
-    it.say("The gate reads as before: decision 4 is gone, and the device sends again.")
+    it.say("The gate reads as before, so decision 4 is gone. The device sends again.")
     it.part("The disk kept the gate")
     sent(it, frame, 500, 0)
     it.take(1)
@@ -107,18 +107,18 @@ def gate_lost_or_kept(it, device, network):
     it.line("crash new", "opened 1 4")
     it.line("list", *listed(1, 1, 1, 0, 2, 4))
     it.say(
-        "Now the gate is open, and decision 4 is there. It had forwarded the reading and "
-        "answered with counter 0, but neither has left and neither will: counters are used up, "
-        "and not used again. The application never gets this reading from the network: "
-        "forwarding is at most once."
+        "Now the gate is open, and decision 4 is there. Its effects are the reading and an answer "
+        "with counter 0. Neither has left, and neither will. Both counters are used up and won't "
+        "be used again. The application never gets this reading from the network: forwarding is "
+        "at most once."
     )
     sent(it, frame, 500, 0)
     line = network.downlink(COPY, 1, ack=True)
     it.commit(1, [line])
     it.downlink(line, device.take_downlink)
     it.say(
-        "The device sends again. The network knows the frame, so it isn't forwarded; it is "
-        "acknowledged, under counter 1."
+        "The device sends again. The network knows the frame, so it doesn't forward it. It "
+        "acknowledges the frame under counter 1."
     )
 
 
@@ -128,8 +128,8 @@ def at_the_gate():
         "power-cut-at-gate",
         "The power is cut between a batch's gate and its sync",
         "The gate is one byte. If it was written and not synced, the disk may have kept it or "
-        "not: the batch is there, or not. Both are sound, since nothing leaves before the last "
-        "sync.",
+        "not. So the batch is there or it isn't. Either is safe, since nothing leaves before the "
+        "last sync.",
     )
     device, network = joined(it)
     gate_lost_or_kept(it, device, network)
@@ -145,8 +145,8 @@ def at_the_gate():
     it.line("list", *listed(1, 2, 4, 0, 3, 7))
     it.downlink(line, device.take_downlink)
     it.say(
-        "A disk that leaves A5 in the byte leaves an open gate, so it is as above: decision 6 is "
-        "there, counter 2 is used up without a frame, and the repeat is acknowledged under "
+        "A disk that leaves A5 in the byte leaves an open gate. So this is as above: decision 6 "
+        "is there, counter 2 is used up without a frame, and the repeat is acknowledged under "
         "counter 3."
     )
     return it
@@ -163,20 +163,19 @@ def cut_before_the_release(it, device, network):
     it.line("emit", "idle")
     it.line("list", *listed(1, 1, 1, 0, 2, 5))
     it.say(
-        "Decision 5 forwarded the reading 04D3 and sent the item, and both are lost with the "
-        "cut: the queue is empty, and counter 0 is used up. An unconfirmed item is sent at most "
-        "once."
+        "The effects of decision 5 are the reading 04D3 and the item. Both are lost with the cut: "
+        "the queue is empty, and counter 0 is used up. An unconfirmed item is sent at most once."
     )
     sent(it, frame, 500, 0)
     line = network.downlink(COPY, 1, ack=True)
     it.commit(1, [line])
     it.downlink(line, device.take_downlink)
-    it.say("The device sends again, and is acknowledged under counter 1.")
+    it.say("The device sends again. It is acknowledged under counter 1.")
 
 
 def cut_after_the_release(it, device, network):
     """The batch is released, and nothing of it has left."""
-    it.part("After the release, before anything has left")
+    it.part("After the release, before anything is emitted")
     reading = bytes.fromhex("04D4")
     frame = device.uplink(7, reading, confirmed=True)
     sent(it, frame, 20_000, 1)
@@ -190,14 +189,14 @@ def cut_after_the_release(it, device, network):
     it.commit(1, [line])
     it.downlink(line, device.take_downlink)
     it.say(
-        "What was released and hasn't left when the power is cut doesn't leave afterwards. The "
-        "repeat is acknowledged under counter 3; counter 2 was that of the lost answer."
+        "Effects that were released and weren't emitted when the power is cut never are. The "
+        "repeat is acknowledged under counter 3. The lost answer had counter 2."
     )
 
 
 def cut_once_told(it, device, network):
     """One effect of the batch has left, and the other hasn't."""
-    it.part("The application was told, the device not yet answered")
+    it.part("The application has its line, the device has no answer yet")
     reading = bytes.fromhex("04D5")
     frame = device.uplink(7, reading, confirmed=True)
     sent(it, frame, 20_000, 1)
@@ -213,7 +212,7 @@ def cut_once_told(it, device, network):
     it.downlink(line, device.take_downlink)
     it.say(
         "The application has the reading 04D5, and doesn't get it a second time. The device gets "
-        "its acknowledgement, under counter 5."
+        "its acknowledgement under counter 5."
     )
 
 
@@ -222,13 +221,14 @@ def after_the_commit():
     it = Story(
         "power-cut-after-commit",
         "The power is cut once a batch is durable",
-        "After the fourth device call the batch is durable in every image that a cut may leave. "
-        "Its effects may leave then, and what hasn't left when the power is cut never does.",
+        "After the fourth device call the batch is durable: it is in every image that a cut may "
+        "leave. Its effects may be released then. Effects that weren't emitted when the power is "
+        "cut never are.",
     )
     device, network = joined(it)
     it.line(f"queue 10000 3 {METER} 9 9 u 0102", "turn 3 4")
     it.commit(1, [told(f"queued {METER} 9")])
-    it.say("The application queues an item, unconfirmed, under tag 9. Decision 4.")
+    it.say("The application queues an unconfirmed item under tag 9: decision 4.")
     cut_before_the_release(it, device, network)
     cut_after_the_release(it, device, network)
     cut_once_told(it, device, network)
@@ -244,7 +244,7 @@ def join_cut_twice(it, device):
     it.call(2)
     it.line("crash new", "opened 1 1")
     it.line("list", f"0 {METER} 0 - - - 0 0", "devices 1 seq 1")
-    it.say("JoinNonce 1 was granted for DevNonce 1, and that never was: nothing has left.")
+    it.say("Decision 2 granted JoinNonce 1 for DevNonce 1. It is gone, and nothing of it had left.")
     it.part("Cut after the gate is open")
     request = device.join_request()
     sent(it, request, 1000, 0)
@@ -253,8 +253,8 @@ def join_cut_twice(it, device):
     it.line("crash new", "opened 1 2")
     it.line("list", f"0 {METER} 1 - - - 0 0", "devices 1 seq 2")
     it.say(
-        "The device had no accept, and asks again with DevNonce 2. JoinNonce 1 is granted and "
-        "kept; its accept never leaves."
+        "The device got no accept, and asks again with DevNonce 2. JoinNonce 1 is granted and "
+        "kept, but its accept never leaves."
     )
     return request
 
@@ -264,9 +264,7 @@ def join_again(it, device, request):
     it.part("The same request again, and a new one")
     it.hear(1000, COPY, request, "turn 0 0")
     it.line("tick 1200", "turn 0 0")
-    it.say(
-        "The request of DevNonce 2, played back by whoever heard it, is refused (9, DevNonceUsed)."
-    )
+    it.say("The request of DevNonce 2 is replayed. It is refused (9, DevNonceUsed).")
     request = device.join_request()
     sent(it, request, 2000, 0)
     network = session(2, device.dev_nonce)
@@ -278,7 +276,10 @@ def join_again(it, device, request):
     sent(it, device.uplink(7, reading), 9000, 1)
     it.commit(1, [up(0, 7, reading, 1, COPY, 2)])
     it.line("list", *listed(2, 0, 0, 0, 1, 4, 2))
-    it.say("Its first uplink in that session: the payload is told under JoinNonce 2.")
+    it.say(
+        "The device sends its first uplink in that session. The application gets the payload with "
+        "JoinNonce 2."
+    )
 
 
 def of_a_join():
@@ -286,9 +287,9 @@ def of_a_join():
     it = Story(
         "power-cut-join",
         "The power is cut while a device joins",
-        "A Join-Accept that left and a JoinNonce that was granted twice would be two sessions "
-        "under one name, with the same keys if the DevNonce were taken twice. Neither can come "
-        "of a power cut.",
+        "If an accept left and its JoinNonce were granted again, two sessions would have one "
+        "name. If the DevNonce were accepted twice, too, they would have the same keys. A power "
+        "cut can cause neither.",
     )
     device = meter()
     it.line("format 00002A 8", "formatted 2166124")

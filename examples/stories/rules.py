@@ -13,7 +13,7 @@ LINK_ADR_REQ = bytes.fromhex("0350070001")
 
 
 class Rules(Story):
-    """A story whose turns are told by how many decisions each event makes."""
+    """A story whose turns show how many decisions each event makes."""
 
     def __init__(self, *words):
         super().__init__(*words)
@@ -64,15 +64,15 @@ def words(it):
         "crash",
     ):
         it.line(line, "bad line")
-    it.say("A word out of its range makes a line that is no step, and nothing changes.")
+    it.say("A line with a word out of its range is no step, and changes nothing.")
     it.event(f"{gateway} 868100000 6 0 0 0 00", refused=24)
     it.event(f"{gateway} 866900000 5 0 0 0 00", refused=24)
     it.event(f"{gateway} 868100000 5 -32768 -32768 4294967295 00")
     for line in ("take 64", "call", "release", "emit"):
         it.line(line, "idle")
     it.say(
-        "A data rate above 5 and a frequency that is no channel are words in their range, and "
-        "the copy is refused (24). There is nothing to take, call, release or emit."
+        "A data rate above 5 and a frequency that is no channel's are in the ranges of their "
+        "words, but the copy is refused (24). There is nothing to take, call, release or emit."
     )
 
 
@@ -91,10 +91,10 @@ def requests(it):
         it.asks("mac", f"{METER} {bytes_text}", 0, 18)
     it.asks("mac", f"{METER} {'06' * 129}", 0, 13)
     it.say(
-        "The device is brought, and of two reasons for a refusal the first in order is told: a "
-        "device that isn't there (7) before a payload that is too long (14), and that before its "
-        "port (15). MAC commands have to be whole ones of 03, 04 and 06 (18), and 128 bytes of "
-        "them wait at most (13)."
+        "The device is provisioned. If two refusals apply, the first in order is answered: a "
+        "device that doesn't exist (7) before a payload that is too long (14), and that before a "
+        "bad port (15). MAC commands must be whole commands of 03, 04 and 06 (18), and at most "
+        "128 bytes of them wait (13)."
     )
 
 
@@ -108,9 +108,10 @@ def joins(it, device):
     it.heard(bytes(wrong), 0)
     it.heard(device.join_request(), 0, replace(NEAR, frequency=867_100_000))
     it.say(
-        "No bytes, a proprietary frame, one of another major version, a Join-Accept, a downlink, "
-        "an uplink that is cut, a Join-Request with a wrong MIC, and a right one on a channel on "
-        "which no device joins: none is decided, and nobody is told."
+        "The network refuses an empty frame, a proprietary one, one of another major version, a "
+        "Join-Accept, a downlink, an uplink that is cut off, a Join-Request with a wrong MIC, and "
+        "a right one on a channel on which no device joins. None makes a decision, and no line "
+        "reports them."
     )
     # its DevNonces weren't used up by that
     device.dev_nonce = 0
@@ -126,14 +127,14 @@ def joins(it, device):
     it.commit(2, [told(f"provisioned {METER} 0"), line])
     it.downlink(line, device.take_accept)
     it.say(
-        "32 gateways hear the Join-Request equally well, and the one of the smallest EUI gets "
-        "the accept. A 33rd copy is refused (22)."
+        "32 gateways hear the Join-Request equally well. The one with the smallest EUI gets the "
+        "accept. A 33rd copy is refused (22)."
     )
 
 
 def ports(it, device, network):
-    """Which payloads are told."""
-    it.part("Ports, and who is told")
+    """Which payloads are forwarded."""
+    it.part("Ports, and what the application gets")
     it.heard(device.uplink(5, b""), 1)
     it.heard(device.uplink(224, READING), 1)
     it.heard(device.uplink(None, b""), 1)
@@ -146,12 +147,12 @@ def ports(it, device, network):
     it.commit(6, [empty, told(f"mac {METER} 1 030706FF05"), up(5, 9, READING, 1, NEAR), line])
     it.downlink(line, device.take_downlink)
     it.say(
-        "An empty payload on port 5 is told as `-`. Port 224 and an uplink without a port aren't "
-        "told. Of the commands on port 0 LinkADRAns and DevStatusAns are told, and DeviceTimeReq "
-        "(0D) isn't, nor is it answered. Commands in FOpts and on port 0 at once are refused "
-        "(11). In FOpts of the next one, `0DFF0307`, nothing is read behind FF, which is no "
-        "identifier, so only its payload is told. The last one has ADRACKReq, and is answered by "
-        "an empty downlink."
+        "The application gets an empty payload on port 5 as `-`. It gets no line for port 224 and "
+        "for an uplink without a port. Of the commands on port 0 it gets LinkADRAns and "
+        "DevStatusAns, and not DeviceTimeReq (0D), which gets no answer either. An uplink with "
+        "commands both in FOpts and on port 0 is refused (11). The next one has `0DFF0307` in "
+        "FOpts. FF is no identifier, so nothing after it is read, and the application gets only "
+        "the payload. The last uplink has ADRACKReq, and is answered by an empty downlink."
     )
 
 
@@ -163,8 +164,8 @@ def items(it, device, network):
     it.asks("queue", f"{METER} 2 9 u {'BB' * 51}")
     it.heard(device.uplink(7, READING), 1, slow)
     it.say(
-        "At data rate 0 an item of 52 bytes doesn't fit, since 7 + 0 + 1 + 52 is above 59, and "
-        "the one behind it waits. Nothing else is due, so no downlink is sent."
+        "At data rate 0 an item of 52 bytes doesn't fit, since 7 + 0 + 1 + 52 is above 59. The "
+        "item after it waits, too. Nothing else is due, so no downlink is sent."
     )
     it.heard(device.uplink(7, READING), 1)
     first = network.downlink(NEAR, 1, (9, b"\xAA" * 52, False), pending=True)
@@ -176,9 +177,9 @@ def items(it, device, network):
     it.downlink(first, device.take_downlink)
     it.downlink(second, device.take_downlink)
     it.say(
-        "At data rate 5 the first one leaves, in RX1 alone, since its MACPayload has more than "
-        "59 bytes; FPending says that more waits. At data rate 0 the item of 51 bytes leaves. No "
-        "line tells either."
+        "At data rate 5 the first item leaves. It leaves in RX1 only, since its MACPayload has "
+        "more than 59 bytes. FPending says that more waits. At data rate 0 the item of 51 bytes "
+        "leaves. No line reports that either item has left."
     )
 
 
@@ -199,8 +200,8 @@ def items_behind_commands(it, device, network):
     )
     it.downlink(line, device.take_downlink)
     it.say(
-        "LinkCheckAns (3 bytes) and two LinkADRReq (10) fit into FOpts; a third would make 18 "
-        "bytes and waits. The item leaves behind them."
+        "LinkCheckAns (3 bytes) and two LinkADRReq (10) fit into FOpts. A third would make 18 "
+        "bytes, so it waits. The item leaves after them, in the same frame."
     )
 
 
@@ -226,9 +227,9 @@ def counters(it, device):
     it.downlink(line, device.take_downlink)
     it.say(
         "The device joins again. The first counter of a session is at most 16,383. With it the "
-        "new session is in use: the item of tag 3, which was sent in the old one, is lost, "
-        "although the uplink has ACK. The LinkADRReq that waited leaves in the new session, "
-        "under its counter 0."
+        "new session is in use. The item of tag 3, which was sent in the old one, is lost, "
+        "although the uplink has ACK. The LinkADRReq that waited leaves in the new session, under "
+        "its counter 0."
     )
 
 
@@ -256,9 +257,9 @@ def failing_disk(it):
         it.line(line, answer)
     it.line("list", f"0 {METER} 2 2 16383 1 0 11", f"devices 1 seq {durable}")
     it.say(
-        "A call of the disk fails (40), and after that the store takes nothing (41) until it is "
-        "opened again. The first opening fails too, and all is idle; the second has what was "
-        "durable."
+        "A device call fails (40). After that the store takes nothing (41) until it is opened "
+        "again. The first opening fails, too, and each step after it is idle. The second opening "
+        "finds what was durable."
     )
 
 
@@ -267,8 +268,9 @@ def story():
     it = Rules(
         "rules",
         "The rules of FORMATS, tried one by one",
-        "For those who build a gateway or an application: what docs/FORMATS.md says of words, "
-        "requests, frames, ports, items, counters and a failing disk, one after another.",
+        "This page is for those who build a gateway or an application. It tries what "
+        "docs/FORMATS.md says of words, requests, frames, ports, items, counters and a failing "
+        "disk, one after another.",
     )
     device = meter()
     words(it)

@@ -1,11 +1,11 @@
-"""A story: the lines of a script, the answer that is due to each, and the page that tells them."""
+"""A story: the lines of a script, the answer that is due to each, and the page that explains them."""
 
 import textwrap
 
 from bozintar.wire import Downlink, Frames, NoMessage
 
 WIDTH = 100
-# a page shows at most so many lines in a row, else the first and the last of them
+# a page shows at most this many lines in a row, otherwise the first and the last of them
 MOST_SHOWN, HALF_SHOWN = 40, 8
 # a word that is longer is shown by its ends, in lines and in notes
 LONGEST_WORD, LONGEST_NOTED, ENDS = 24, 48, 8
@@ -54,7 +54,7 @@ def read_order(line):
 
 
 class Story:
-    """Lines are added one after another, and told in groups."""
+    """Lines are added one after another, and explained in groups."""
 
     def __init__(self, name, title, opening):
         self.name, self.title = name, title
@@ -73,12 +73,12 @@ class Story:
         self.line(f"hear {moment} {copy.heard()} {copy.stamp} {frame.hex().upper()}", answer)
 
     def call(self, count):
-        """So many device calls."""
+        """This many device calls."""
         for _ in range(count):
             self.line("call", "called")
 
     def take(self, count):
-        """So many decisions are taken."""
+        """This many decisions are taken."""
         self.line("take 64", f"taken {count}")
 
     def commit(self, count, effects):
@@ -98,7 +98,7 @@ class Story:
         self.page += [f"## {title}", ""]
 
     def say(self, words):
-        """Shows the lines that were added since the last time, and tells them."""
+        """Shows the lines that were added since the last time, and explains them."""
         shown = shown_lines(self.lines, self.told)
         if len(shown) > MOST_SHOWN:
             shown = [*shown[:HALF_SHOWN], "         ...", *shown[-HALF_SHOWN:]]
@@ -110,7 +110,7 @@ class Story:
             self.notes = []
 
     def downlink(self, line, take):
-        """The gateway and the device read what the network sent; it is told behind the lines."""
+        """The gateway and the device read what the network sent; the page has it after the lines."""
         order = read_order(line)
         for words in (
             f"The gateway sends it {order.words()}.",

@@ -3,8 +3,8 @@ finds nothing to do, in processor seconds, and what the prover said first. Run `
 in the crate first: the edits are tried over a copy of the work that it kept, as the merge gate
 tries them over its own.
 
-`search` is the part of the seconds in which the prover tells what it found (the stages behind its
-check): where it is above a second, the broken goal was searched for, with help printed; answer it
+`search` is the part of the seconds in which the prover prints what it found (the stages after its
+check): if it is above a second, the broken goal was searched for, with help printed; answer it
 (see tools/costs/README.md).
 
 Status: 0; 1 where no check of the crate kept anything; 2 for a word that it doesn't take; 127 where

@@ -10,9 +10,9 @@ itself says goes to out/gate.log, and its last line is repeated here.
 
   --beside COMMIT  the gate of a clone of that commit runs beside it, with half of the processors,
                    and this one with one more, so that they end at about the same time; the last
-                   line tells how many times as much this one took: on virtual machines only what
+                   line shows how many times as much this one took: on virtual machines only what
                    runs at the same time can be compared
-  --keep           writes the table to tools/costs.txt, where it passed: by it bin/build says how
+  --keep           writes the table to tools/costs.txt, if it passed: bin/build uses it to say how
                    long it will take, and tools/costs/README.md speaks of it
 
 Status: the gate's own; 2 for a word that it doesn't take; 127 where rt isn't there. --help prints
@@ -67,7 +67,7 @@ def spent_by(pid):
 
 
 def gate(crates):
-    """The words of the merge gate, with those that pass over what a kit keeps, where it does."""
+    """The words of the merge gate, with those that ignore what a kit keeps, if it keeps something."""
     how = {"stdout": subprocess.PIPE, "stderr": subprocess.STDOUT, "text": True, "check": False}
     told = subprocess.run(["rt", "help"], **how).stdout
     return ["rt", "ci", *(["--anew"] if "--anew" in told else []), *crates]
@@ -90,7 +90,7 @@ class Gate:
         """Reads what its processes have spent. Whether it still runs."""
         if self.minutes is not None:
             return False
-        # which tells what was used, as Popen's own wait doesn't
+        # which returns what was used, as Popen's own wait doesn't
         pid, status, used = os.wait4(self.pid, os.WNOHANG)
         if pid:
             self.status = self.running.returncode = os.waitstatus_to_exitcode(status)

@@ -1,10 +1,10 @@
 """The calls that a program made of its disk, as tools/preloads.py logs them, and the images that a
-power cut behind each of them may leave."""
+power cut after each of them may leave."""
 import struct
 from dataclasses import dataclass
 from itertools import product
 
-# of so many unsynced writes each subset may have reached the disk; of more all, or none
+# of this many unsynced writes each subset may have reached the disk; of more all, or none
 FEW = 4
 
 
@@ -48,7 +48,7 @@ class Disk:
             self.synced, self.writes = self.with_writes(self.writes), []
 
     def with_writes(self, writes):
-        """What was synced, with these writes behind it."""
+        """What was synced, with these writes after it."""
         content = bytearray(self.synced)
         for place, written in writes:
             content[place : place + len(written)] = written

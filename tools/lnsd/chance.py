@@ -1,4 +1,4 @@
-"""What a crowd of devices and applications does by chance, for comparisons with a plain model."""
+"""What a crowd of devices and applications does at random, for comparisons with a plain model."""
 from bozintar import aes, quick
 from bozintar.devices import Device, Rejected
 from bozintar.frames import CHANNELS, FIRST_CHANNELS
@@ -57,7 +57,7 @@ class Sender(Device):
         return frame
 
     def data(self, chance):
-        """An uplink: new, a repeat, behind a gap, or broken."""
+        """An uplink: new, a repeat, after a gap, or broken."""
         kind = chance.random()
         if kind < 0.15 and self.sent:
             return chance.choice(self.sent[-3:])
@@ -184,7 +184,7 @@ class Crowd:
         return frame, [Copy(EUIS[0], hz, stamp=stamp)]
 
     def take(self, frame):
-        """The device for which a frame is reads it, where it isn't deaf just now."""
+        """The device that a frame is for reads it, if it isn't deaf now."""
         for it in self.senders:
             if it.is_deaf:
                 continue

@@ -48,7 +48,7 @@ def failing(trials):
 
 
 def calls_of_opening(trials, program):
-    """How many calls an opening makes of a disk: where one of them fails, nothing is served."""
+    """How many calls an opening makes of a disk: if one of them fails, nothing is served."""
     for number in range(1, CALLS):
         how = with_disk(FAILING_CALL=number)
         came = program.run("list", program.store, env=how)
@@ -85,7 +85,7 @@ def fails(trials, program, number):
 
 
 def kinds_of(log):
-    """The kinds of the calls in a log, of which so many writes in a row count once."""
+    """The kinds of the calls in a log, of which this many writes in a row count once."""
     kinds = b"".join(it.kind for it in calls.logged(log)).decode()
     return "".join(it for at, it in enumerate(kinds) if it != "w" or kinds[at - 1 : at] != "w")
 
@@ -143,8 +143,8 @@ def slow(trials):
 
 def backlog(trials):
     """The first commit takes a second: of 5,000 requests meanwhile 4,096 wait, and 23 is the
-    answer to each of the others. What was decided is told, or counted as dropped: of what leaves
-    at once behind that commit, 1,024 lines wait for an application."""
+    answer to each of the others. What was decided is sent, or counted as dropped: of what leaves
+    at once after that commit, 1,024 lines wait for an application."""
     with trials.store(4096, records(4096, OWNER)) as program:
         how = with_disk(SLOW_SYNCS=3, SLOW_MS=500)
         application = Application(program.serve(1, env=how), OWNER)

@@ -20,7 +20,7 @@ from .seen import WRONG
 GATEWAYS = [f"{0xB1 + it:016X}" for it in range(8)]
 APPLICATIONS = (3, 9)
 RATE = 700
-# how often a link changes behind what a device does, where links come and go; how often it is a
+# how often a link changes after what a device does, where links come and go; how often it is a
 # gateway's; and how many places there are for those that end meanwhile
 CHANGES, OF_GATEWAYS, SPARE = 0.03, 0.7, 4
 DROPS, TAKEOVER, INSIDE = ("closed", "reset", "ended"), "taken over", "inside a message"
@@ -51,7 +51,7 @@ class Load:
         if changes:
             start, gateways = program.run_on, GATEWAYS
         self.address = start(len(gateways) + len(APPLICATIONS) + SPARE * bool(changes))
-        # how many links each name had; who watches tells how many greetings were taken
+        # how many links each name had; `watch` shows how many greetings were taken
         self.made, self.watch = Counter(), Watch(program, seen.handed) if changes else None
         self.gateways = [self.linked(Gateway, it) for it in gateways]
         self.applications = [self.linked(Application, it) for it in APPLICATIONS]
@@ -83,7 +83,7 @@ class Load:
         self.sent = self.come() - self.before
 
     def next_of(self, link, how):
-        """The next link of a link's name, behind its end or, where it takes over, before it."""
+        """The next link of a link's name, after its end or, if it takes over, before it."""
         is_gateway = isinstance(link, Gateway)
         kind, name = (Gateway, link.eui) if is_gateway else (Application, link.number)
         if is_gateway:
@@ -208,7 +208,7 @@ class Load:
         self.seen.handed.hand_in(frame, hz, heard, self.chance)
 
     def is_done(self, share):
-        """Whether so many links were dropped, and so many taken over."""
+        """Whether this many links were dropped, and this many taken over."""
         drops = sum(self.changed[it] for it in DROPS)
         return drops >= share[0] and self.changed[TAKEOVER] >= share[1]
 
@@ -269,7 +269,7 @@ class Watch:
         self.came, self.is_over, self.contents = b"", False, ()
         self.linked = Counter()
         if not select.select([self.out], [], [], PATIENCE)[0] or not self.more(0):
-            raise Silent("lnsd watch has nothing to tell")
+            raise Silent("lnsd watch prints nothing")
 
     def more(self, _):
         """Takes the lines that have come; whether there may be others."""

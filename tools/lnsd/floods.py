@@ -13,7 +13,7 @@ from .trials import EUI, HEARD, OWNER, PROVISION, Pair, await_links, end_all, re
 from . import load
 
 REQUESTS = 400_000
-# so many frames are sent at once by 32 gateways each: the copies of each come within its window
+# this many frames are sent at once by 32 gateways each: the copies of each come within its window
 TOGETHER = 2
 # what a link that doesn't read holds unread, in bytes
 ROOM = 4096
@@ -92,7 +92,7 @@ def copies(trials):
 
 
 def two_windows(trials):
-    """Each frame keeps its own window: what another gateway hands in of it still counts behind a
+    """Each frame keeps its own window: what another gateway hands in of it still counts after a
     frame that came meanwhile, and beside a window that is due."""
     with trials.store(records=records(1, OWNER)) as program:
         address = program.serve(3)
@@ -188,7 +188,7 @@ def backlog(trials):
 
 
 def heard_until(application, count, quiet=1.5):
-    """Lines until so many came, or nothing has for a while."""
+    """Lines until this many came, or nothing has for a while."""
     came, last = [], time.monotonic()
     while len(came) < count and time.monotonic() - last < quiet:
         try:
@@ -220,7 +220,7 @@ def never_reads(trials):
         for it in (mute, *pair.links()):
             it.end()
         left = mute.rest(30)
-        trials.compare("what it was told", set(left), {b"\x13refused 51"})
+        trials.compare("what it was sent", set(left), {b"\x13refused 51"})
         trials.holds(f"{len(left)} answers", 1024 <= len(left) <= REQUESTS)
         mute.close()
         end_all(trials, pair.links())
@@ -228,7 +228,7 @@ def never_reads(trials):
 
 
 def long_uplinks(program, address):
-    """An application is told of long payloads, faster than it reads: 2.5 MB of lines and more."""
+    """An application gets long payloads, faster than it reads: 2.5 MB of lines and more."""
     gateway, mute = Gateway(address, EUI), Application(address, OWNER, patience=60, room=ROOM)
     await_links(gateway)
     devices = [load.device(it) for it in range(LONG // 8)]
@@ -248,7 +248,7 @@ def is_told(link):
 
 
 def reads_late(trials):
-    """An application reads nothing until all inputs have ended: each line is told or counted."""
+    """An application reads nothing until all inputs have ended: each line is sent or counted."""
     with trials.store(4096, records(LONG // 8, OWNER)) as program:
         gateway, mute = long_uplinks(program, program.serve(2))
         time.sleep(2)
@@ -276,13 +276,13 @@ def never_ends(trials):
 
 
 def count_of(trials, program, came, told, more):
-    """What was told and what was dropped is all that was decided, or so much more."""
+    """What was sent and what was dropped is all that was decided, or N more."""
     status, out, said = came
     ending = (status, out, said.split("\n")[1:])
     trials.compare("status, output, faulted", ending, (0, "", ["faulted 0", ""]))
     dropped = int(said.split()[1]) if said.startswith("dropped ") else -1
     decided = int(program.list()[-1].split(" ")[3]) - LONG // 8
-    words = f"{decided} decided, {told} told, {dropped} dropped"
+    words = f"{decided} decided, {told} sent, {dropped} dropped"
     print(f"  {words}")
     trials.compare("how many were decided", decided, LONG)
     trials.holds(words, decided <= told + dropped <= decided + more and dropped > 0)
@@ -354,7 +354,7 @@ def unlinked(trials):
 
 
 def refused_link(trials):
-    """A link beyond those that it was told to take is refused, and disturbs nobody."""
+    """A link beyond N is refused, and disturbs no other."""
     with trials.store() as program:
         address = program.serve(2)
         pair = Pair(address)

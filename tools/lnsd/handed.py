@@ -93,8 +93,8 @@ class Handed:
         return device if kind == "join" else self.seen.keys[int(device, 16)][0][0]
 
     def drop(self, link, left=0):
-        """A gateway's link is about to end, or has ended: all that was said on it was read, but for
-        so many bytes."""
+        """A gateway's link is about to end, or has ended: all that was said on it was read, except
+        this many bytes."""
         for it in self.turns[link.eui]:
             if it.link is link and it.end <= link.said - left:
                 it.is_read = True
@@ -115,7 +115,7 @@ class Handed:
             self.out.add(name)
 
     def tells(self, line):
-        """A line that an operator was told."""
+        """A line that an operator read."""
         kind, *words = line.split(" ")
         if kind == "refused" and words[0] not in OF_COPIES:
             self.refused[" ".join(words[2:5])] += 1
@@ -123,7 +123,7 @@ class Handed:
 
     def shows(self, it):
         """Whether something came of a copy's frame, of which there is no other copy: its window
-        opened behind all that this gateway had handed in before."""
+        opened after all that this gateway had handed in before."""
         return it.name in self.new and it.name in self.out and self.parts[it.name] == 1
 
     def decided(self, turns):
@@ -134,7 +134,7 @@ class Handed:
 
     def due(self, is_stopped):
         """The new frames that have to be decided by the end of this life. The word that a frame was
-        refused may be lost in a kill. It can be one alone behind which its device sent another one,
+        refused may be lost in a kill. It can be one alone after which its device sent another one,
         that was decided first."""
         names = set()
         for turns in self.turns.values():
@@ -146,7 +146,7 @@ class Handed:
 
     def counts(self, kind, is_stopped):
         """Of uplinks (`data`) or joins (`join`), by device: how many have to be decided, how many
-        may be, and how many of the first an operator was told to be refused."""
+        may be, and how many of the first were refused, as an operator read."""
         due = [it for it in self.due(is_stopped) if it.startswith(kind)]
         may = [it for it in self.may if it.startswith(kind)]
         refused = [it for it in due if it not in self.out and self.refused[it] >= self.times[it]]
@@ -164,7 +164,7 @@ class Handed:
                 least = 0 if self.has_gaps else due[name] - refused[name]
                 told[f"{kind} came"] += grew
                 end = "stopped" if is_stopped else "killed"
-                why = f"{grew} more of {kind} are in the list of {name} behind a life, {end}"
+                why = f"{grew} more of {kind} are in the list of {name} after a life, {end}"
                 why += f", and {due[name]} to {may[name]} were due"
                 self.seen.holds(least <= grew <= may[name], why)
         return told

@@ -12,7 +12,7 @@ ENTRY, BATCHES = 4305, 1 << 20
 WHOLE, CHANGE = 1, 2
 # DevEUI, JoinEUI, AppKey, application, RX1DROffset, RX delay
 FRONT = 8 + 8 + 16 + 1 + 1 + 1
-# the commands that may be queued, each with the bytes behind its identifier
+# the commands that may be queued, each with the bytes after its identifier
 QUEUED = {0x03: 4, 0x04: 1, 0x06: 0}
 # the bytes of such commands that may wait, in each version
 MOST_COMMANDS = {1: 64, 2: 128}
@@ -66,7 +66,7 @@ class Session:
 
 
 def session(fields):
-    """A session behind its flag, or None."""
+    """A session after its flag, or None."""
     channels = fields.flag(2)
     if not channels:
         return None

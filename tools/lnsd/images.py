@@ -82,7 +82,7 @@ def compare(trials, program, places):
 
 
 def one_area(trials):
-    """A table of changes, and each of the first 200 bytes, where one area has been written and has
+    """A table of changes, and each of the first 200 bytes, if one area has been written and has
     a batch."""
     with trials.store() as program:
         provisioned(trials, program, [PROVISION])
@@ -127,8 +127,8 @@ def older(trials):
         trials.compare("the list", program.run("list", program.store), image.told(before))
         with open(program.store, "rb") as file:
             after = file.read()
-        trials.compare("what is live behind the list", live(after), (0, 3, 2))
-        trials.compare("what is read behind the list", image.told(after), image.told(before))
+        trials.compare("what is live after the list", live(after), (0, 3, 2))
+        trials.compare("what is read after the list", image.told(after), image.told(before))
         trials.holds("the area of version 1 was written", before[second:] == after[second:])
         provisioned(trials, program, [OTHER])
 

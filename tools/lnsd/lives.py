@@ -1,7 +1,7 @@
 """A script of lives for lns-sim, and a plain model of it, written from docs/FORMATS.md alone, in
 which one step at most wants for memory. It is answered `refused 30`, and nothing has changed; or
 the batch that it took is lost, so that the next one is refused 42, and the next life begins with
-what is on the disk. Where there is no memory before the first step, `refused 30` is all.
+what is on the disk. If there is no memory before the first step, `refused 30` is all.
 
 The script has commits, batches that follow others, checkpoints and crashes."""
 
@@ -35,7 +35,7 @@ class Batch:
 
 
 class Sim:
-    """The simulator, plainly. A decision is a device with its slot. What needs memory is told in
+    """The simulator, plainly. A decision is a device with its slot. What needs memory is listed in
     which way it has none: "" where it has, "nothing changed", or "lost" of a batch."""
 
     def __init__(self):
@@ -166,7 +166,7 @@ def answers(script, at=None, how=""):
 
 
 def outputs():
-    """All that may be written, each with what it tells of."""
+    """All that may be written, each with its meaning."""
     script = steps()
     found = {answers(script): "all is as with memory", "refused 30\n": "nothing is done"}
     for at, step in enumerate(script):

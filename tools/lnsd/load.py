@@ -1,4 +1,4 @@
-"""Loads of many devices for lnsd: the devices and their frames, made beforehand; what sends them
+"""Loads of many devices for lnsd: the devices and their frames, made in advance; what sends them
 at a rate; and what notes when their lines come."""
 import gc
 import multiprocessing
@@ -81,7 +81,7 @@ def copies_of(numbers, rounds, gateways, copies):
 
 
 def made(devices, rounds, gateways, copies, jobs):
-    """All frames' copies, by device and counter, made by so many processes."""
+    """All frames' copies, by device and counter, made by this many processes."""
     size = max(1, min(64, devices // jobs))
     parts = [range(at, min(at + size, devices)) for at in range(0, devices, size)]
     words = [(part, rounds, gateways, copies) for part in parts]
@@ -101,7 +101,7 @@ class Links:
 
     @classmethod
     def to(cls, address, gateways, applications):
-        """Links so many gateways and applications."""
+        """Links this many gateways and applications."""
         return cls(
             [Gateway(address, gateway_eui(it)) for it in range(gateways)],
             [Application(address, it) for it in range(applications)],
@@ -148,7 +148,7 @@ def sending(plan, links, rate, count):
 
 
 def noted(links, wanted, is_over, patience=5.0):
-    """The pieces that come over all links, each with its moment, until so many lines are there or,
+    """The pieces that come over all links, each with its moment, until this many lines came or,
     once it is over, nothing has come for a while. Lines are counted by their first byte."""
     pieces = {it: [] for it in links.all()}
     by_number = {it.socket.fileno(): it for it in links.all()}

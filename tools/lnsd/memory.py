@@ -14,7 +14,7 @@ from bozintar.wire import PROVISION, Copy
 from .seen import Meter, Seen
 from .trials import EUI, OWNER
 
-# so many requests are refused, one in each life, spread over those of a life
+# this many requests are refused, one in each life, spread over those of a life
 TRIED = 30
 # how long a client waits for what may never come, in seconds
 PATIENCE = 0.6
@@ -162,7 +162,7 @@ def next_life(program, seen, meters):
 
 
 def refused_once(trials):
-    """Each of some requests of a short life is refused. It ends as ever, or with 1 and `lnsd:
+    """Each of some requests of a short life is refused. It ends as usual, or with 1 and `lnsd:
     refused 30`; what had left is in the list, nothing leaves twice, and the next life serves."""
     with tempfile.TemporaryDirectory(prefix="lnsd-memory-") as room:
         library = preloads.made(preloads.REQUESTS, room)

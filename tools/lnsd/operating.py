@@ -70,7 +70,7 @@ def await_status(program, **due):
 
 
 class Watcher:
-    """An operator who watches, and what he was told."""
+    """An operator who watches, and the lines that came."""
 
     def __init__(self, program):
         words = [program.path, "watch", program.store]
@@ -81,11 +81,11 @@ class Watcher:
             raise Failed("lnsd watch doesn't say that it watches")
 
     def next(self):
-        """The next line, whatever it is."""
+        """The next line."""
         out = self.process.stdout.fileno()
         while b"\n" not in self.came:
             if not select.select([out], [], [], PATIENCE)[0]:
-                raise Failed("lnsd watch has nothing to tell")
+                raise Failed("lnsd watch prints nothing")
             piece = os.read(out, 65536)
             if not piece:
                 raise Failed("lnsd watch has ended")
@@ -126,8 +126,8 @@ def heard(frame, gateway=EUI):
 
 
 def too_many_lines(trials):
-    """An operator who doesn't read holds up nobody, and is told how much was left out. A checkpoint
-    is told, too."""
+    """An operator who doesn't read holds up nobody, and learns how much was left out. A checkpoint
+    is reported, too."""
     with running(trials, 32, records(QUEUES, OWNER)) as program:
         slow = operator(program, b"watch\n")
         trials.compare("what comes first", slow.recv(len(WATCHING)), WATCHING)
@@ -183,7 +183,7 @@ def operator(program, said=b""):
 
 
 def all_of(connection):
-    """All that comes on it until it ends, or is broken off behind bytes that nobody read."""
+    """All that comes on it until it ends, or is broken off after bytes that nobody read."""
     came = b""
     try:
         while piece := connection.recv(65536):
@@ -209,7 +209,7 @@ def operators(trials):
         program.status()
         trials.holds("silent operators aren't given up", time.monotonic() - begun < 4 * ORDER)
         for it in silent:
-            trials.compare("what a silent one is told", all_of(it), b"")
+            trials.compare("what a silent one is sent", all_of(it), b"")
         watchers = [Watcher(program) for _ in range(4)]
         fifth = program.run("watch", program.store)
         trials.compare("a fifth who watches", fifth, (1, "", "lnsd: busy\n"))
@@ -264,7 +264,7 @@ WHOLE_ANSWER = b"devices 0 seq 0\n\n"
 
 
 def answer_once(listener, answer):
-    """Says this to whoever asks next, once the order is whole, and ends."""
+    """Sends this to the next client when its order is whole, and ends."""
     connection, _ = listener.accept()
     with connection, connection.makefile("rb") as order:
         order.readline()
@@ -272,7 +272,7 @@ def answer_once(listener, answer):
 
 
 def answers(trials):
-    """An answer that is cut off is told as that, by whatever server said it."""
+    """An answer that is cut off is reported as such, from any server."""
     with trials.store() as program, socket.socket(socket.AF_UNIX) as listener:
         listener.bind(program.store + ".control")
         listener.listen()
@@ -288,7 +288,7 @@ def answers(trials):
 
 
 def strangers(trials):
-    """Who connects and says nothing has ten seconds. A gateway that waits behind 96 of them is
+    """Who connects and says nothing has ten seconds. A gateway that waits after 96 of them is
     served then."""
     with running(trials, made=records(1, OWNER)) as program:
         begun = time.monotonic()
@@ -336,21 +336,21 @@ def used(program):
 
 def anew(trials):
     """Links come anew over and over, by one name and by many, ended, reset and taken over: no
-    descriptor, no thread and no memory is left behind."""
+    descriptor, no thread and no memory remains."""
     with running(trials) as program:
         connect_anew(program, 100)
         before = used(program)
         connect_anew(program, ANEW)
         after = used(program)
-        trials.compare(f"descriptors and threads behind {ANEW} links", after[1:], before[1:])
+        trials.compare(f"descriptors and threads after {ANEW} links", after[1:], before[1:])
         grown = after[0] - before[0]
-        trials.holds(f"{grown} KiB more behind {ANEW} links", grown < LEAK)
-        print(f"  {grown} KiB more behind {ANEW} links", flush=True)
+        trials.holds(f"{grown} KiB more after {ANEW} links", grown < LEAK)
+        print(f"  {grown} KiB more after {ANEW} links", flush=True)
         trials.compare("the server's end", program.stop()[0], 0)
 
 
 def connect_anew(program, count):
-    """So many links come and end; what the server has then."""
+    """This many links come and end; what the server has then."""
     last = None
     for number in range(count):
         kind, name = ((Gateway, f"{number % 40:016X}"), (Application, number % 16))[number % 2]
@@ -390,13 +390,13 @@ def away(trials):
                 came = [int(words[3]) for words in lines if words[1] == it.dev_eui]
                 trials.compare(f"what came of {it.dev_eui}", came, [*range(1, len(came) + 1)])
             application.end()
-            trials.compare("what came behind it all", application.rest(), [])
+            trials.compare("what came after it all", application.rest(), [])
         gateway.say(heard(devices[0].uplink(7, b"\x02")))
         await_status(program, windows=0, made=count * rounds + 1)
         gateway.close()
         stopped(trials, program, dropped=lost + 1)
         told = watcher.rest()[0].count(f"dropped application {OWNER} 1")
-        trials.compare("dropped lines that were told, but for the last", told, lost)
+        trials.compare("dropped lines that were reported, except the last", told, lost)
 
 
 TRIALS = {

@@ -33,7 +33,7 @@ class Exchange:
     @classmethod
     def fixed(cls):
         """A device is provisioned, and an item is queued for it; it joins, and sends once. Its
-        uplink comes right behind its Join-Request, under the address that it will be given."""
+        uplink comes right after its Join-Request, under the address that it will be given."""
         session, device = network.Session(0, APP_KEY, 1, 1), Device(DEV_EUI, JOIN_EUI, APP_KEY)
         item, later = (7, b"\xc0\xff\xee", False), Copy(EUI, stamp=6_050_000)
         requests = [PROVISION, f"queue {DEV_EUI} 9 7 u C0FFEE"]
@@ -74,7 +74,7 @@ def parted(said):
     """A stream's pieces by name: single bytes, and two pieces in all ways."""
     made = [("byte by byte", [bytes([it]) for it in said])]
     for at in range(1, len(said)):
-        made.append((f"in two pieces, parted behind byte {at}", [said[:at], said[at:]]))
+        made.append((f"in two pieces, parted after byte {at}", [said[:at], said[at:]]))
     return made
 
 
@@ -87,7 +87,7 @@ def say(link, pieces):
 
 
 def taken(link, count):
-    """The bytes that come: so many or a few more, or all until the end or for too long none."""
+    """The bytes that come: this many or a few more, or all until the end or for too long none."""
     came = b""
     link.socket.settimeout(link.patience)
     try:
@@ -118,7 +118,7 @@ def played(program, due, asked, handed_in, port):
 
 
 def ports(count):
-    """So many ports, no two of them the same."""
+    """This many ports, no two of them the same."""
     found = set()
     while len(found) < count:
         found.add(free_port())

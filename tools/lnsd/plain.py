@@ -284,7 +284,7 @@ class Network:
 
 
 def replied(device, session, uplink, copies, checks):
-    """The downlink behind a new uplink, where one is due."""
+    """The downlink after a new uplink, if one is due."""
     copy, options = best(copies), b""
     if checks:
         margin = (copy.snr - FLOORS[copy.data_rate]) // 4

@@ -1,4 +1,4 @@
-"""Rewritings of short scripts, by hand: each script has a line a step, with its answer behind a
+"""Rewritings of short scripts, by hand: each script has a line a step, with its answer after a
 colon where there is memory to spare (a list has a `/` for a newline). Words of steps that the
 rewriting doesn't read are left out."""
 from dataclasses import dataclass

@@ -1,9 +1,9 @@
-"""What lns-sim may write of a script where one request for memory is refused, told before it is
+"""What lns-sim may write of a script if one request for memory is refused, predicted before it is
 played: each is what the same program, with memory to spare, writes of a rewritten script.
 
 Let step N be the one that wants for memory. That may be so in these ways:
 
-- of an event, "its own": only its moment counts, so N becomes a `tick`; behind the tick's answer
+- of an event, "its own": only its moment counts, so N becomes a `tick`; after the tick's answer
   stands `refused 30`;
 - of an event whose turn closes a window, "its window": the window stays open, and only the moment
   counts. So N is left out, and what comes later in that life isn't earlier than it;
@@ -19,14 +19,14 @@ from itertools import takewhile
 REQUESTS = ("provision", "queue", "mac")
 NEVER = ("call", "release", "fail")
 BEGIN = ("take", "next")
-# a window is due so many milliseconds behind its first copy
+# a window is due this many milliseconds after its first copy
 WINDOW = 200
 OUT_OF_MEMORY = "refused 30"
 TURN = re.compile(r"turn (\d+) (\d+)( refused \d+)?")
 
 
 class Unfit(Exception):
-    """A script whose outputs can't be told."""
+    """A script whose outputs can't be predicted."""
 
 
 def word_of(line):
@@ -164,7 +164,7 @@ class Script:
                 lines[it] = with_moment(lines[it], moment)
 
     def lost(self, lines, place):
-        """Takes a lost batch and those of its life behind it out of the lines; their answers."""
+        """Takes a lost batch and those of its life after it out of the lines; their answers."""
         said, waiting = {}, 0
         for it in range(self.life_of(place) + 1, self.crash_behind(place)):
             turn, taken = TURN.fullmatch(self.ample[it]), re.match(r"taken (\d+)", self.ample[it])
@@ -186,7 +186,7 @@ class Script:
         return said
 
     def outputs(self):
-        """All that may be written, each with what it tells of; and which of these have to be."""
+        """All that may be written, each with its meaning; and which of these have to be."""
         found = {
             "\n".join([*self.ample, ""]): "all is as with memory",
             f"{OUT_OF_MEMORY}\n": "nothing is done",

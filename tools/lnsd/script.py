@@ -4,7 +4,7 @@ import subprocess
 from .chance import Crowd
 from . import plain
 
-# a batch has so many decisions at most, and a checkpoint takes so many device calls
+# a batch has this many decisions at most, and a checkpoint takes this many device calls
 BATCH, CALLS = 64, 6
 SECONDS = 600
 
@@ -71,7 +71,7 @@ class Script:
 
 
 def compared(program, chance, rounds, slots):
-    """Plays so many rounds; how many lines were as they should be, and the first that wasn't."""
+    """Plays this many rounds; how many lines were as they should be, and the first that wasn't."""
     script = Script(chance, slots)
     for _ in range(rounds):
         script.round()

@@ -12,7 +12,7 @@ from .handed import Handed
 
 JOIN_EUI = "0102030405060708"
 quick.use()
-# how long a device rests behind a frame, and how long it waits for an accept, in seconds: an accept
+# how long a device rests after a frame, and how long it waits for an accept, in seconds: an accept
 # doesn't say of which Join-Request it is
 REST, JOIN_REST = 0.45, 60
 # what an application asks that is refused, with a number that no other application gets: no
@@ -130,12 +130,12 @@ class Seen:
         return len(self.ups), len(self.accepts), len(self.downlinks), self.answers
 
     def mark(self, of, name, number, what, link):
-        """A mark that may come once, and not behind a greater one of an earlier life or of the same
+        """A mark that may come once, and not after a greater one of an earlier life or of the same
         link. Between the links of one life no order holds."""
         of[name, number] = of.get((name, number), 0) + 1
         self.holds(of[name, number] == 1, f"{what} {number} of {name} came twice")
         last = max(self.before.get((what, name), -1), self.by_link.get((what, name, link), -1))
-        self.holds(number > last, f"{what} {number} of {name} came over {link} behind {last}")
+        self.holds(number > last, f"{what} {number} of {name} came over {link} after {last}")
         self.by_link[what, name, link] = max(number, last)
         self.last[what, name] = max(number, self.last.get((what, name), -1))
 
@@ -182,7 +182,7 @@ class Seen:
             self.keystream(name, keys[1], address, counter, len(frame) - 4 - (end + 1))
             clear = crypted(keys[1], DOWN, address, counter, frame[end + 1 : -4])
             tag = int.from_bytes(clear[:4], "big")
-            # what was asked on an older link may be read behind what is asked on the newer one
+            # what was asked on an older link may be read after what is asked on the newer one
             asked = (meter.dev_eui, meter.asked_on.get(tag))
             self.mark(self.items, asked, tag, "item", gateway)
         return name[0]
@@ -208,7 +208,7 @@ class Seen:
             it.sent, it.rests_until = [], time.monotonic() + REST
             keys = session_keys(it.app_key, join_nonce, network.NET_ID, it.dev_nonce)
             address = int.from_bytes(fields[6:10], "little")
-            # the line that tells the slot may come later, or be lost
+            # the line with the slot may come later, or be lost
             if it.slot is not None:
                 due = network.address(it.slot, join_nonce)
                 self.expect(f"the DevAddr of {it.dev_eui}", address, due)
@@ -236,7 +236,7 @@ class Seen:
             if it.slot is not None:
                 self.device(it, listed.get(it.dev_eui), sums)
         seq = int(total.split(" ")[3])
-        self.holds(seq >= self.seq, f"seq {seq} came behind {self.seq}")
+        self.holds(seq >= self.seq, f"seq {seq} came after {self.seq}")
         self.seq = seq
 
     def device(self, meter, words, sums):

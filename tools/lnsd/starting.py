@@ -53,7 +53,7 @@ int pthread_create(pthread_t *id, const pthread_attr_t *how, void *(*run)(void *
 
 
 def served(program, places):
-    """The words of a server with so many places."""
+    """The words of a server with this many places."""
     return ("run", program.store, "--listen", f"{HOST}:{free_port()}", "--links", str(places))
 
 
@@ -79,7 +79,7 @@ def threads(trials):
 
 
 def limited(count):
-    """How to run the program so that it may have so many descriptors."""
+    """How to run the program so that it may have this many descriptors."""
     return {"preexec_fn": lambda: resource.setrlimit(resource.RLIMIT_NOFILE, (count, count))}
 
 

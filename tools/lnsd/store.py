@@ -14,7 +14,7 @@ def big(number, length):
 @dataclass
 class Record:
     """A device's record. A session is its JoinNonce, NwkSKey and AppSKey, and the current one has
-    its last uplink and its next downlink counter behind these; an item is its tag, its port,
+    its last uplink and its next downlink counter after these; an item is its tag, its port,
     whether it is confirmed, and its payload. The sessions have eight channels, or three. New
     uplinks are counted in version 2 alone."""
 
@@ -62,7 +62,7 @@ def entry(slot, record, version=2):
 
 
 def batch(entries, seq):
-    """A batch of these entries behind the decision of a number."""
+    """A batch of these entries after the decision of a number."""
     body = b"".join(entries)
     return OPEN + big(len(body), 4) + big(seq + len(entries), 8) + big(len(entries), 2) + body
 
@@ -70,7 +70,7 @@ def batch(entries, seq):
 def put(path, records, batches=(), version=2, seq=None):
     """Puts a table of these records, in order of slot, into a store that has none. The second
     area becomes the live one, of a version of records, with generation 2 and these batches, each a
-    list of entries, behind the decision of a number: one a record where none is given."""
+    list of entries, after the decision of a number: one a record where none is given."""
     entries = b"".join(entry(slot, it, version) for slot, it in enumerate(records))
     first = len(records) if seq is None else seq
     journal, last = bytearray(), first

@@ -79,7 +79,7 @@ def cut_streams():
 
 
 def beside(trials, group, piece=None):
-    """A healthy pair beside these streams, which end behind their last byte."""
+    """A healthy pair beside these streams, which end after their last byte."""
     with trials.store() as program:
         address = program.serve(2 + len(group))
         links = [Link(address) for _ in group]
@@ -141,7 +141,7 @@ def applications(trials):
 
 
 def counts(trials):
-    """What stands before a fault counts, and what stands behind it doesn't."""
+    """What stands before a fault counts, and what stands after it doesn't."""
     with trials.store() as program:
         address = program.serve(3)
         pair, faulty = Pair(address), Link(address)
@@ -177,7 +177,7 @@ def lines(trials, link):
 
 
 def names(trials):
-    """The second link of a name, and that what stands behind its greeting isn't read. A gateway
+    """The second link of a name, and that what stands after its greeting isn't read. A gateway
     whose number is an application's has another name."""
     with trials.store() as program:
         address = program.serve(5)
@@ -224,7 +224,7 @@ TRIALS = {
     "these streams, cut after every byte": cut,
     "these streams, byte by byte": in_pieces,
     "applications with a fault, and lines that are no requests": applications,
-    "what stands before a fault, and behind it": counts,
+    "what stands before a fault, and after it": counts,
     "the second link of a name": names,
     "links that are silent, half open, or reset": silent,
 }

@@ -1,4 +1,4 @@
-"""Trials of what lnsd tells whoever operates it, line by line as docs/OPERATING.md has it: `watch`,
+"""Trials of what lnsd prints for operators, line by line as docs/OPERATING.md has it: `watch`,
 `status`, `devices`, and what a server leaves that was ended by a signal."""
 import os
 import subprocess
@@ -17,7 +17,7 @@ from .trials import APP_KEY, DEV_EUI, EUI, HEARD, JOIN_EUI, OWNER, Pair, records
 from . import disks, load
 
 OTHER, STRANGER = "00000000000000B2", "1112131415161799"
-# the names of a status, but for the last copies
+# the names of a status, except the last copies
 NAMES = """listening places links gateways applications devices slots windows waiting made decided
     commits dropped faulted taken_over silent checkpoints syncs longest_sync_us""".split()
 SLOW = 0.5
@@ -30,7 +30,7 @@ def changed(frame, at, to):
 
 
 def refusals(device):
-    """Frames of a device that has sent once, with how each is heard and told to be refused."""
+    """Frames of a device that has sent once, with how each is heard and reported as refused."""
     device.next_up -= 1
     repeat, last = device.uplink(7, b"\x04\xd2"), device.next_up - 1
     address = f"{device.dev_addr:08X}"
@@ -66,7 +66,7 @@ def refusals(device):
 
 def refused(trials, watcher, gateway, device):
     """Frames that are refused, each for another reason, and copies of which only the first counts;
-    the line tells of it what the gateway said."""
+    the line has what the gateway said."""
     for frame, copy, due in refusals(device):
         gateway.say(wire.copy_of(frame, copy))
         came = watcher.await_line("refused")
@@ -78,7 +78,7 @@ def refused(trials, watcher, gateway, device):
 
 
 def spent(trials):
-    """A device whose JoinNonces are used up is told, and one whose window has 32 copies."""
+    """A device whose JoinNonces are used up is reported, and one whose window has 32 copies."""
     of_last = replace(records(1, OWNER)[0], granted=LAST_NONCE)
     with running(trials, made=[of_last]) as program:
         watcher = Watcher(program)
@@ -101,7 +101,7 @@ def spent(trials):
 
 
 def what_happens(trials):
-    """Each line of `watch` is provoked, but for a checkpoint and what is dropped or left out where
+    """Each line of `watch` is provoked, except a checkpoint and what is dropped or left out where
     too much comes, which are in other trials."""
     how = {"env": disks.with_disk(SLOW_SYNCS=2, SLOW_MS=150)}
     with running(trials, **how) as program:
@@ -110,7 +110,7 @@ def what_happens(trials):
         pair.play(trials)
         came = watcher.await_line("joined")
         for due in (f"linked application {OWNER}", f"linked gateway {EUI}"):
-            trials.holds(f"{due} isn't told: {came}", due in came)
+            trials.holds(f"{due} isn't printed: {came}", due in came)
         trials.compare("a join", came[-1], f"joined {DEV_EUI} 1 {EUI}")
         slow = [int(it.split(" ")[1]) for it in came if it.startswith("slow_sync ")]
         trials.holds(f"slow syncs of {slow} ms", slow and all(150 <= it < 10_000 for it in slow))
@@ -163,7 +163,7 @@ def status_of(trials, program, copies=(), **due):
 
 
 def how_it_goes(trials):
-    """Each line of `status` and `devices`, and that it tells what is so."""
+    """Each line of `status` and `devices`, and that it is true."""
     how = {"env": disks.with_disk(SLOW_SYNCS=1_000_000, SLOW_MS=int(1000 * SLOW))}
     begun = time.monotonic()
     with running(trials, **how) as program:
@@ -182,7 +182,7 @@ def how_it_goes(trials):
         trials.holds(f"the last copy came at {at}", 0 < at <= 1000 * (time.monotonic() - begun))
         line = f"0 {DEV_EUI} 1 1 0 0 0 1"
         heard_at = devices_of(trials, program, line, f"{EUI} -20 -95", 3)
-        trials.holds(f"{heard_at} isn't behind the copy of {at}", at <= heard_at < at + 5000)
+        trials.holds(f"{heard_at} isn't after the copy of {at}", at <= heard_at < at + 5000)
         waits(trials, program, pair)
         for it in pair.links():
             it.close()
@@ -223,7 +223,7 @@ def devices_of(trials, program, line, how_heard, seq):
 
 
 def left_over(trials):
-    """What a server leaves that was ended by a signal is told, and the next one takes it away; what
+    """What a server leaves that was ended by a signal is reported, and the next one removes it; what
     is no socket there stays, and where the address is taken there is no server."""
     with trials.store() as program:
         program.run_on(2)
@@ -257,7 +257,7 @@ def left_over(trials):
 
 
 def await_end(address):
-    """Waits until a server was told to end: it serves no further link."""
+    """Waits until a server is ending: it serves no further link."""
     while True:
         try:
             with Application(address, OWNER + 1, patience=ORDER) as it:
@@ -268,7 +268,7 @@ def await_end(address):
 
 
 def broken_off(trials):
-    """Who stops a server is told where it is killed before its end."""
+    """An operator who stops a server learns that it was killed before its end."""
     how = {"env": disks.with_disk(SLOW_SYNCS=1_000_000, SLOW_MS=3000)}
     with running(trials, made=records(1, OWNER), **how) as program:
         with Application(program.address, OWNER) as application:
@@ -285,7 +285,7 @@ def broken_off(trials):
 
 
 TRIALS = {
-    "what an operator is told": what_happens,
+    "what an operator sees": what_happens,
     "a device without JoinNonces, and 33 copies": spent,
     "how it goes": how_it_goes,
     "what a server leaves that was killed": left_over,

@@ -53,7 +53,7 @@ class Pauses:
         self.thread.join()
 
     def spoil(self):
-        """Whether the machine paused; tells it."""
+        """Whether the machine paused; prints it."""
         if self.longest >= PAUSE:
             print(f"  the machine paused for {self.longest:.2f} s, so this says nothing")
         return self.longest >= PAUSE
@@ -176,7 +176,7 @@ def end_all(trials, links):
     for it in links:
         it.end()
     for it in links:
-        trials.compare("what came behind it all", it.rest(), [])
+        trials.compare("what came after it all", it.rest(), [])
         it.close()
 
 
@@ -189,7 +189,7 @@ def records(count, application=None):
 
 
 def name_of(address):
-    """An address as Linux tells it in /proc/net/tcp."""
+    """An address as Linux writes it in /proc/net/tcp."""
     host = int.from_bytes(socket.inet_aton(address[0]), sys.byteorder)
     return f"{host:08X}:{address[1]:04X}"
 

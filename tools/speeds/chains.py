@@ -1,20 +1,20 @@
 """speed chains [--program FILE] [--folder DIR] [--times N]: how much sooner decisions are durable
 where batches are committed in chains, by how long a sync of the disk takes. It runs `lns-speed
 chains`, on a file in a folder (the current one), with syncs that take 0, 0.5, 1, 2 and 5 ms longer
-than they do, N times each (once), and prints the median of what it tells: decisions a second with
+than they do, N times each (once), and prints the median of its figures: decisions a second with
 each batch of 64 alone and with chains of 64 batches, how many times as many those are, and how many
 calls of the disk 64 batches take.
 
 The aim is 1.6 times as many, by syncs as they are and by longer ones, and 256 calls alone and 193
 in a chain. The last line is 'N passed, M failed': a comparison with the aim each. With syncs as
 they are the figure varies from run to run where a sync takes no longer than the work beside it: so
-the least and the largest of the runs are told too, behind the median.
+the least and the largest of the runs are printed too, after the median.
 
 The program is the proved lns-speed, which bin/build lns-speed makes, or FILE. A C compiler is
 needed, for what delays the syncs.
 
 Status: 0; 1 where the aim is missed, or nothing was measured, or there is no compiler; 2 for a word
-that it doesn't take, or where there is no program. --help prints this."""
+that it doesn't take, or if there is no program. --help prints this."""
 import os
 import re
 import statistics

@@ -15,7 +15,7 @@ from bozintar.processes import Failed
 # tags of one length, so that all answers have one
 FIRST_TAG = 1_000_000
 ITEM = "000102030405060708090A0B"
-# what a device's queue takes, but for one
+# what a device's queue takes, except one
 ITEMS = 15
 INSERT = b"INSERT INTO uplinks VALUES ($1, 1, $2, 7, '\\x%s', 177, 868100000, 5, -20, -95)"
 # PostgreSQL's oid of a BIGINT
@@ -91,7 +91,7 @@ class OfPostgres:
 
 
 def asked(client, window, seconds):
-    """Asks for so long, with so many requests unanswered at most; how long each answer took in ns,
+    """Asks for so long, with at most this many unanswered requests; how long each answer took in ns,
     and when the first was asked and the last one answered."""
     begun, waits, came = array("q"), array("q"), []
     sent = done = received = 0
@@ -133,7 +133,7 @@ def one(kind, words, window, seconds, barrier, result):
 
 
 def side_by_side(kind, address, clients, window, seconds, devices):
-    """So many clients ask; how long each answer took, and how long all of it, in ns."""
+    """This many clients ask; how long each answer took, and how long all of it, in ns."""
     context = multiprocessing.get_context("fork")
     barrier, ends, processes = context.Barrier(clients), [], []
     for number in range(clients):

@@ -12,14 +12,14 @@ second, 4 or N, alternate between both.
 
 PostgreSQL keeps the settings that it comes with. SQLite has one client, in the process that asks,
 in WAL mode with synchronous=FULL. All of them are on the file system of a folder (the repository).
-A line tells each figure, with the processor time of a request in the server (all its processes).
+Each figure has a line, with the processor time of a request in the server (all its processes).
 --out FILE has all of it as JSON, beside what other measurements put there. The last line is
 'N passed, M failed': what was measured, and what wasn't.
 
 It installs nothing. PostgreSQL is Debian's package postgresql; SQLite is that of Python.
 
-Status: 0; 1 where one of them isn't here or failed; 2 for a word that it doesn't take, or where
-there is no program. --help prints this."""
+Status: 0; 1 if one of them isn't here or failed; 2 for a word
+that it doesn't take, or if there is no program. --help prints this."""
 import time
 from array import array
 

@@ -38,7 +38,7 @@ def spread(nanoseconds):
 
 
 def committed(number, place):
-    """The syncs of one commit: behind a write of a batch, and behind one of a byte, in ns."""
+    """The syncs of one commit: after a write of a batch, and after one of a byte, in ns."""
     took = []
     for written in (os.urandom(BATCH), b"\xa5"):
         os.pwrite(number, written, place)
@@ -63,7 +63,7 @@ def told(pairs):
 
 
 def syncs(folder):
-    """How long `fdatasync` takes here, as a commit calls it, where nothing else is asked."""
+    """How long `fdatasync` takes here, as a commit calls it, if nothing else is running."""
     with file_in(folder) as number:
         return told([committed(number, it * BATCH) for it in range(MOST_SYNCS)])
 
@@ -158,7 +158,7 @@ def calls(pid, seconds):
 
 @contextmanager
 def counted(pid):
-    """Has strace count the system calls of a process; a dictionary that has them behind it, or is
+    """Has strace count the system calls of a process; a dictionary that has them after it, or is
     empty where there is no strace."""
     found = {}
     if not shutil.which("strace"):

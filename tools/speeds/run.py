@@ -11,7 +11,7 @@ devices.
   a thread wakes in 10 s;
 - 10,000 links that come anew, ended, reset and taken over: memory, descriptors and threads.
 
-A line tells each figure, with what was aimed at; the last line is 'N passed, M failed', of the
+Each figure has a line, with its aim; the last line is 'N passed, M failed', of the
 aims. --out FILE has all of it as JSON, beside what other measurements put there.
 
 --program FILE  the program; crates/lnsd/out/lnsd otherwise
@@ -19,10 +19,10 @@ aims. --out FILE has all of it as JSON, beside what other measurements put there
 --rate N        uplinks a second (4000)
 --seconds N     how long a turn lasts (10)
 --turns N       how many turns each has (4)
---jobs N        processes that make the frames beforehand (all processors)
+--jobs N        processes that make the frames in advance (all processors)
 
-Status: 0; 1 where an aim was missed or the run failed; 2 for a word that it doesn't take, or where
-there is no program. --help prints this."""
+Status: 0; 1 if an aim was missed or the run failed; 2 for a word
+that it doesn't take, or if there is no program. --help prints this."""
 import time
 from array import array
 from collections import Counter
@@ -38,7 +38,7 @@ from speeds.runs import APPLICATIONS, DEVICES, GATEWAYS
 PLACES, NAMED = 96, (64, 16)
 IDLE_SECONDS, WITHIN = 10, 1.1
 # how often links come anew, and where it is looked what the server has then; its memory has settled
-# behind the first 2,500, and may grow by some pages from there, in KiB
+# after the first 2,500, and may grow by some pages from there, in KiB
 ANEW, SETTLED, PAGES = (100, 2500, 5000, 7500, 10_000), 1, 64
 STRACED = 5
 # what a thread's name ends with, or is: what it does
@@ -212,13 +212,13 @@ def anew(run):
         for count in ANEW:
             found.append((count, *connect_anew(program, count - done)))
             done = count
-            run.tell(f"behind {count:,} links: memory, descriptors, threads", found[-1][1:])
+            run.tell(f"after {count:,} links: memory, descriptors, threads", found[-1][1:])
         took = 1e6 * (seconds_of(program.server.pid) - begun) / done
         run.figures["anew"] = {"used": found, "processor_us": round(took, 1)}
         run.tell("processor time a link", f"{took:.1f} us")
         first, settled, last = found[0], found[SETTLED], found[-1]
         run.aim("descriptors and threads more", sum(last[2:]) - sum(first[2:]), 0, "")
-        name = f"memory more behind {last[0]:,} links than behind {settled[0]:,}"
+        name = f"memory more after {last[0]:,} links than after {settled[0]:,}"
         run.aim(name, last[1] - settled[1], PAGES, "KiB")
         program.stop()
 

@@ -28,7 +28,7 @@ class Run:
         print(f"{what:<58} {value}", flush=True)
 
     def aim(self, what, value, most, unit):
-        """Tells a figure that is to be at most so great."""
+        """Prints a figure that has an upper bound."""
         is_met = value is not None and value <= most
         self.met, self.missed = self.met + is_met, self.missed + (not is_met)
         self.tell(what, f"{value} {unit} (at most {most}){'' if is_met else '  MISSED'}".strip())
@@ -119,7 +119,7 @@ def listed(run, program, count):
 
 
 def frames_of(run, rounds):
-    """The frames of so many rounds of all devices, one copy each."""
+    """The frames of this many rounds of all devices, one copy each."""
     return lnsd.load.made(DEVICES, rounds, GATEWAYS, 1, run.given.jobs)
 
 

@@ -9,7 +9,7 @@ how fast `lnsd serve` is, on the loopback of this machine and a real file with r
   version 1, which is taken over;
 - beside it, the syncs of the same file system.
 
-A line tells each figure, with what was aimed at; the last line is 'N passed, M failed', of the
+Each figure has a line, with its aim; the last line is 'N passed, M failed', of the
 aims. --out FILE has all of it as JSON, beside what other measurements put there; tools/speed page
 draws it.
 
@@ -17,10 +17,10 @@ draws it.
 --folder DIR    where stores lie, for the time of the run (the repository)
 --rate N        uplinks a second of the large load (4000)
 --seconds N     how long that load lasts (20)
---jobs N        processes that make the frames beforehand (all processors)
+--jobs N        processes that make the frames in advance (all processors)
 
-Status: 0; 1 where an aim was missed or the run failed; 2 for a word that it doesn't take, or where
-there is no program. --help prints this."""
+Status: 0; 1 if an aim was missed or the run failed; 2 for a word
+that it doesn't take, or if there is no program. --help prints this."""
 import os
 import shutil
 import time
@@ -49,7 +49,7 @@ def ended(run, program, links, name):
     run.aim(f"{name}: another end than dropped 0, faulted 0", int(is_other), 0, "")
     if is_other:
         print(f"speed server: it ended with {came}")
-    run.tell(f"{name}: its end behind that of the last input", f"{took} ms")
+    run.tell(f"{name}: its end after that of the last input", f"{took} ms")
 
 
 def load(run, program, links, frames, first, count, rate):
@@ -100,7 +100,7 @@ def uplinks(run):
     rounds = -(-(many + few) // DEVICES)
     begun = time.monotonic()
     frames = runs.frames_of(run, rounds)
-    run.tell("frames made beforehand", f"{DEVICES * rounds} in {time.monotonic() - begun:.0f} s")
+    run.tell("frames made in advance", f"{DEVICES * rounds} in {time.monotonic() - begun:.0f} s")
     with run.store(runs.bare()) as program:
         address = program.serve(GATEWAYS + APPLICATIONS)
         links = lnsd.load.Links.to(address, GATEWAYS, APPLICATIONS)
@@ -115,7 +115,7 @@ def uplinks(run):
         run.tell("the rate that came about", f"{found['uplinks_a_second']} uplinks a second")
         run.aim("processor time an uplink", found["processor_us_an_uplink"], 40, "us")
         after = memory(program.server.pid)
-        run.tell("memory behind these loads, VmRSS and VmHWM", f"{after} MiB")
+        run.tell("memory after these loads, VmRSS and VmHWM", f"{after} MiB")
         ended(run, program, links, "uplinks")
         runs.listed(run, program, few + many)
 
@@ -190,7 +190,7 @@ def full_load(run, program, found):
     run.aim("full: wrong lines", len(wrong), 0, "")
     run.aim("full: memory, VmHWM", found["memory_after"]["VmHWM"], 64, "MiB")
     sizes = [found[it]["VmRSS"] for it in ("memory_before", "memory_after")]
-    run.tell("full: memory, VmRSS before and behind the uplinks", f"{sizes[0]}, {sizes[1]} MiB")
+    run.tell("full: memory, VmRSS before and after the uplinks", f"{sizes[0]}, {sizes[1]} MiB")
     told = f"{found['latency'].get('median_ms')} ms (99th {found['latency'].get('p99_ms')})"
     run.tell(f"full: beyond the window at {FULL_RATE} a second, median", told)
     ended(run, program, links, "full_end")

@@ -56,7 +56,7 @@ def others(found):
         ("What", "Figure"),
         (f"12 links, {idle['seconds']} s without a frame: times a thread woke", idle["switches"]),
         ("in another such time, under strace: system calls", calls),
-        ("memory behind these loads (VmHWM)", f"{most['VmHWM']} MiB"),
+        ("memory after these loads (VmHWM)", f"{most['VmHWM']} MiB"),
         ("4,096 full records: `lnsd list`", f"{median(full['list_ms'])} ms"),
         ("the same of version 1, which are taken over", f"{median(found['older']['list_ms'])} ms"),
         (
@@ -64,14 +64,14 @@ def others(found):
             f"{median(taken)} ms; {median(answered)} ms",
         ),
         (
-            "memory before an uplink of each of these, and behind (VmHWM)",
+            "memory before an uplink of each of these, and after (VmHWM)",
             f"{full['memory_before']['VmHWM']} MiB; {full['memory_after']['VmHWM']} MiB",
         ),
         (
             "beyond the window, 1,000 of these a second: median; 99th",
             "; ".join(spread(full["latency"])[:2]),
         ),
-        ("the server's end behind that of the last input", f"{found['uplinks']['end_ms']} ms"),
+        ("the server's end after that of the last input", f"{found['uplinks']['end_ms']} ms"),
     )
 
 
@@ -113,7 +113,7 @@ def links(found):
     cells = [
         (f"{what}: times a thread woke; system calls", f"{idle['switches']}; {called}"),
         (
-            f"memory behind {first[0]:,} links that came; {settled[0]:,}; {last[0]:,}",
+            f"memory after {first[0]:,} links that came; {settled[0]:,}; {last[0]:,}",
             "; ".join(f"{it[1]:,} KiB" for it in (first, settled, last)),
         ),
         ("descriptors; threads, then", f"{first[2]}, {last[2]}; {first[3]}, {last[3]}"),

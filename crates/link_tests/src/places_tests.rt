@@ -16,7 +16,7 @@ use std::thread::{Threads, join};
 use timed_disk::DiskTimes;
 
 // A gateway, an application, and what they send and receive. The frames were made by a device and a
-// network of another implementation (examples/outside).
+// network of another implementation (python/bozintar).
 const GATEWAY: &str = "0009 00 00000000000000B1";
 
 const APPLICATION: &str = "0002 0203";

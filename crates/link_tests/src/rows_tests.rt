@@ -18,7 +18,7 @@ type Row = (&'static str, &'static str, (u64, u64, u64), &'static str);
 
 // A device is provisioned and joins. Its uplink comes in a life in which its application has no
 // link. Lines that are no request, or are for another application's device, are refused. The frames
-// were made by a device and a network of another implementation (examples/outside).
+// were made by a device and a network of another implementation (python/bozintar).
 const ROWS: &[Row] = &[
     (
         "0002 0203 0051 03 |provision 1112131415161718 0102030405060708 \

@@ -15,7 +15,7 @@ const RECEPTION: Reception = Reception {
     rssi: -95,
 };
 
-// A Join-Request and an uplink, made by an outside device (examples/outside), and bytes that are no
+// A Join-Request and an uplink, made by an outside device (python/bozintar), and bytes that are no
 // frame: what each says of itself.
 const FRAMES: &[(&[u8], FrameName)] = &[
     (

@@ -1,5 +1,5 @@
 // What comes to a core in these tests. The frames were made by a device that isn't ours
-// (examples/outside).
+// (python/bozintar).
 ghost use Rattle.std.specs.Prelude.{◌≡◌, IfOk};
 
 use devices::{
