@@ -1,4 +1,4 @@
-"""A story: the lines of a script, the answer that is due to each, and the page that explains them."""
+"""A story: the lines of a script, the answer due to each, and the page that explains them."""
 
 import textwrap
 
@@ -110,7 +110,7 @@ class Story:
             self.notes = []
 
     def downlink(self, line, take):
-        """The gateway and the device read what the network sent; the page has it after the lines."""
+        """The gateway and the device read what the network sent; it follows the lines."""
         order = read_order(line)
         for words in (
             f"The gateway sends it {order.words()}.",

@@ -67,7 +67,7 @@ def spent_by(pid):
 
 
 def gate(crates):
-    """The words of the merge gate, with those that ignore what a kit keeps, if it keeps something."""
+    """The words of the merge gate, with those that ignore what a kit keeps, if it does."""
     how = {"stdout": subprocess.PIPE, "stderr": subprocess.STDOUT, "text": True, "check": False}
     told = subprocess.run(["rt", "help"], **how).stdout
     return ["rt", "ci", *(["--anew"] if "--anew" in told else []), *crates]

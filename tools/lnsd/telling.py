@@ -223,7 +223,7 @@ def devices_of(trials, program, line, how_heard, seq):
 
 
 def left_over(trials):
-    """What a server leaves that was ended by a signal is reported, and the next one removes it; what
+    """What a server leaves after a signal is reported, and the next one removes it; what
     is no socket there stays, and where the address is taken there is no server."""
     with trials.store() as program:
         program.run_on(2)

@@ -91,7 +91,7 @@ class OfPostgres:
 
 
 def asked(client, window, seconds):
-    """Asks for so long, with at most this many unanswered requests; how long each answer took in ns,
+    """Asks for so long, with at most this many unanswered requests; the ns that each answer took,
     and when the first was asked and the last one answered."""
     begun, waits, came = array("q"), array("q"), []
     sent = done = received = 0
