@@ -6,6 +6,7 @@ import os
 from .words import log
 
 EVERY = 10.0
+COUNTS_HELP = "writes counts there every ten seconds, for node_exporter; name it *.prom"
 
 
 class Counts:
