@@ -149,7 +149,7 @@ def ends_of_certificates(trials):
         name = 'pilot_certificate_end_seconds{file="%s/%s.crt"}'
         due = {name % (folder, it) for it in ("ca", "none")}
         trials.compare("what is told", set(came), {"lnsd_up"} | due)
-        ends = sorted(int(came[it]) for it in due)
+        ends = sorted(int(float(came[it])) for it in due)
         trials.compare("of what is none", ends[0], 0)
         trials.holds("the other's end", abs(ends[1] - time.time() - 10 * 86400) < 600)
 
