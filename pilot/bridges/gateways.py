@@ -6,7 +6,7 @@ from dataclasses import dataclass, field
 
 from bozintar import wire, words
 from bozintar.buckets import Bucket
-from bozintar.counts import Counts
+from bozintar.counts import COUNTS_HELP, Counts
 from bozintar.lasting import Link
 from bozintar.words import log
 
@@ -136,15 +136,38 @@ class Gateways:
                 self.sleeps(it)
 
 
-def add_words(it: words.Words, power: int):
-    """The words of a command, where gateways send with so many dBm unless it is said."""
-    it.add_argument("--network", type=words.Address.read, required=True, metavar="HOST:PORT")
-    it.add_argument("--gateway", type=words.eui, action="append", default=[], metavar="EUI")
-    it.add_argument("--gateways", metavar="FILE")
-    it.add_argument("--silent", type=words.between(1, 86400), default=120, metavar="SECONDS")
-    it.add_argument("--power", type=words.between(-10, 30), default=power, metavar="DBM")
-    it.add_argument("--rx2-power", type=words.between(-10, 30), metavar="DBM")
-    it.add_argument("--counts", metavar="FILE")
+def add_words(it: words.Words, power: int, unit: str = "dBm"):
+    """The options of a bridge of gateways, which send with this power by default."""
+    it.add_argument(
+        "--network",
+        type=words.Address.read,
+        required=True,
+        metavar="HOST:PORT",
+        help="where lnsd run listens",
+    )
+    it.add_argument(
+        "--gateway",
+        type=words.eui,
+        action="append",
+        default=[],
+        metavar="EUI",
+        help="a gateway, 16 hex digits; may be given several times",
+    )
+    it.add_argument(
+        "--gateways", metavar="FILE", help="gateways, an EUI a line; # begins a comment"
+    )
+    it.add_argument(
+        "--silent",
+        type=words.between(1, 86400),
+        default=120,
+        metavar="SECONDS",
+        help="closes a gateway's link if nothing came for this long, 1 to 86400 (120)",
+    )
+    sent = f"with how many {unit} a gateway sends, -10 to 30 ({power})"
+    how = {"type": words.between(-10, 30), "metavar": "DBM"}
+    it.add_argument("--power", default=power, help=sent, **how)
+    it.add_argument("--rx2-power", help="the same in RX2, on 869.525 MHz (as --power)", **how)
+    it.add_argument("--counts", metavar="FILE", help=COUNTS_HELP)
 
 
 def read_words(it: words.Words):

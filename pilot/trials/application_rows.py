@@ -26,6 +26,14 @@ UP = {
 }
 ITEM = {"queueItemId": "5", "tag": 5}
 KNOWN = {"queueItemId": "3ac7e3c4", "tag": 9}
+SPENT = {
+    "level": "ERROR",
+    "code": "FRAME_COUNTERS_SPENT",
+    "joinNonce": 5,
+    "description": "the session has no downlink counter left",
+}
+# words that a later server may add at the end of a line
+LATER = "7 later words"
 STATUS = {
     "margin": 20,
     "externalPowerSource": False,
@@ -38,6 +46,7 @@ LINES = (
     (f"acked {DEVICE} 5", ("ack", {**ITEM, "acknowledged": True})),
     (f"lost {DEVICE} 9", ("ack", {**KNOWN, "acknowledged": False})),
     (f"queued {DEVICE} 9", ("queued", KNOWN)),
+    (f"spent {DEVICE} 5", ("log", SPENT)),
     (f"mac {DEVICE} 5 068014", ("status", STATUS)),
     (f"mac {DEVICE} 5 0307", ("mac", {"joinNonce": 5, "commands": "0307"})),
     (f"hello {DEVICE}", Wrong),
@@ -94,9 +103,10 @@ FILES = (
     (f"\n{DEVICE}", ["line 2: 1 fields, and not 3 to 5"]),
 )
 
-# a line that refuses, and how its code begins
+# a line that refuses, and its code
 REFUSED = (("refused 12", "QUEUE_FULL"), ("refused 99", "REFUSED_99"))
-REFUSED += tuple((it, "REFUSED") for it in ("refused", "refused ", "refused x", "refused 1 2"))
+REFUSED += ((f"refused 12 {LATER}", "QUEUE_FULL"), ("refused 1 2", "REFUSED_1"))
+REFUSED += tuple((line, "REFUSED") for line in ("refused", "refused ", "refused x", "refused x 12"))
 
 
 def translated(line: str):
@@ -133,8 +143,12 @@ def of_applications(trials):
     trials.compare("its identifier again", again.body["deduplicationId"], came)
     topic = f"application/3/device/{DEVICE}/event/up"
     trials.compare("its topic", event.topic(3), topic)
+    later = Translator(3, {}).event(f"up {DEVICE} 5 10 1 AA 2 {heard} {LATER}", TIME)
+    later.body.pop("deduplicationId")
+    trials.compare("up with more words", (later.kind, later.body), ("up", UP))
     for line, due in LINES:
         trials.compare(line, outcome(translated, line), due)
+        trials.compare(f"{line} {LATER}", outcome(translated, f"{line} {LATER}"), due)
     for (battery, margin), due in STATUSES:
         trials.compare(f"battery {battery}", tuple(status(battery, margin).values()), due)
     for text, due in COMMANDS:
