@@ -22,7 +22,7 @@ take_words() {
         exit 0
         ;;
     esac
-    [ $# -eq 0 ] || stop 2 "it takes no word, and not $1; $command --help tells more"
+    [ $# -eq 0 ] || stop 2 "it takes no word, and not $1; see $command --help"
 }
 
 # run_unproved [WORD]..: runs this command's program, compiled of the sources with no proof.
@@ -46,7 +46,7 @@ stop() {
 measure() {
     name=$1
     shift
-    is_built "$name" || stop 1 "it measures the proved program alone, which isn't built of these" \
+    is_built "$name" || stop 1 "it measures only the proved program, which isn't built of these" \
         "sources: run bin/build $command"
     exec "$root/crates/$name/out/$name" "$@"
 }
