@@ -4,6 +4,7 @@ left out, or has a name of its own."""
 
 import re
 import uuid
+from collections.abc import Callable
 from dataclasses import dataclass
 from typing import Any
 
@@ -104,7 +105,7 @@ class Translator:
         """The event of a line. `time` is when it came. A later server may add words at the end of a
         line, which are ignored."""
         kind, device, *words = line.split(" ")
-        of_kind = {
+        of_kind: dict[str, Callable[..., Named]] = {
             "up": self.up,
             "acked": self.acked,
             "lost": self.lost,
