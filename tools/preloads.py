@@ -132,7 +132,7 @@ ssize_t pwrite(int file, const void *bytes, size_t length, off_t place) {
 """
 
 # The program's request for memory of the number REFUSED_REQUEST is refused, or none where that is
-# 0. How many there were is told behind the last line of standard error; and in the first 8 bytes of
+# 0. Their number is printed after the last line of standard error; and in the first 8 bytes of
 # the file REQUESTS, in the machine's order, for a program that may end without what ends it.
 REQUESTS = r"""
 #define _GNU_SOURCE

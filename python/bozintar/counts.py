@@ -24,7 +24,7 @@ def need_it() -> None:
 
 class Metric:
     """A metric, a gauge or a counter, with its samples: numbers by the values of their labels. Of a
-    counter the library writes the name with "_total" behind it."""
+    counter the library writes the name with "_total" after it."""
 
     def __init__(self, name: str, kind: str, text: str):
         need_it()

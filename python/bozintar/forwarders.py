@@ -1,6 +1,6 @@
 """Packet forwarders of Semtech's protocol, by its public text (PROTOCOL.TXT of packet_forwarder):
-what a gateway's own program sends over UDP, and what it does with what it is told. `Air` carries
-frames between gateways and meters."""
+what a gateway's own program sends over UDP, and what it does with the messages that it gets. `Air`
+carries frames between gateways and meters."""
 
 import base64
 import json

@@ -24,7 +24,7 @@ def eui_bytes(text: str) -> bytes:
 
 
 def counted_block(kind: int, direction: int, dev_addr: int, counter: int, last: int) -> bytes:
-    """The blocks A_i and B0, but for their last byte (§4.3.3, §4.4)."""
+    """The blocks A_i and B0, without their last byte (§4.3.3, §4.4)."""
     fields = bytes([kind, 0, 0, 0, 0, direction]) + little(dev_addr, 4) + little(counter, 4)
     return fields + bytes([0, last])
 

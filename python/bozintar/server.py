@@ -139,7 +139,7 @@ class Program:
         return status, rest if listening.startswith("listening ") else out, server.errors()
 
     def kill(self) -> None:
-        """Ends the server by SIGKILL, in the middle of whatever it does."""
+        """Ends the server by SIGKILL, at any moment."""
         self.running().running().kill()
         self.ended()
 

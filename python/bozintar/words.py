@@ -37,7 +37,7 @@ class Words(argparse.ArgumentParser):
         )
 
     def error(self, message: str) -> NoReturn:
-        stop(f"{message}; {self.prog} --help tells more", 2)
+        stop(f"{message}; see {self.prog} --help", 2)
 
 
 def name() -> str:
@@ -173,8 +173,8 @@ def end_on(numbers: Iterable[int]) -> None:
 def end_with(
     main: Callable[[], int], signals: Iterable[int] = (signal.SIGTERM, signal.SIGHUP)
 ) -> NoReturn:
-    """Ends with the status of `main`, without a traceback of an interrupt, a missing file, or output
-    that can't be written. These signals end the program, and it tidies up."""
+    """Ends with the status of `main`, without a traceback after an interrupt, a missing file, or
+    output that can't be written. These signals end the program, and it tidies up."""
     end_on(signals)
     try:
         status = status_of(main)
