@@ -102,7 +102,8 @@ def imported(top: Path, program: str) -> set[str]:
     folders = [str((top / program).parent), *(str(top / it) for it in MODULES)]
     finder = ModuleFinder(path=folders)
     finder.run_script(str(top / program))
-    files = {Path(it.__file__) for it in finder.modules.values() if it.__file__}
+    named = (getattr(it, "__file__", None) for it in finder.modules.values())
+    files = {Path(it) for it in named if it}
     return {str(it.relative_to(top)) for it in files if it.is_relative_to(top)}
 
 

@@ -20,13 +20,13 @@ EVERYWHERE = {
 # What is replaced in one unit, each exactly once.
 ONCE = {
     "lnsd.service": {
-        '\'test -e "$0" || \\\n    exec': (
+        # status 0 of this lets lnsd run fail by status 1, since there is no store, and then the unit
+        # waits for its operator; format itself is tried again each second, after status 1
+        '\'test -e "$0" || \\\n    exec /usr/bin/lnsd format "$0" --netid 00002A --slots 4096\'': (
             '\'test -e "$0" && exit; test -n "$NETID" || { \\\n'
-            f'    echo "NETID is not set: set it in {SERVER}" >&2; exit 78; }}; \\\n'
-            "    exec"
+            f'    echo "NETID is not set: set it in {SERVER}" >&2; exit 0; }}; \\\n'
+            '    /usr/bin/lnsd format "$0" --netid "$NETID" --slots "$SLOTS" || test $? -eq 2\''
         ),
-        "--netid 00002A --slots 4096'": '--netid "$NETID" --slots "$SLOTS"\'',
-        "RestartPreventExitStatus=1 2\n": "RestartPreventExitStatus=1 2 78\n",
     },
     "bozintar-gateways-udp.service": {
         ', by "systemctl edit --full\n# bozintar-gateways-udp":': f", as UDP in\n# {BRIDGES}:",

@@ -1,0 +1,1 @@
+"""What tools/package-trial tries of the Debian package."""

@@ -1,0 +1,104 @@
+"""A Debian 12 in a folder, which boots by systemd-nspawn without any network but its own loopback."""
+
+import os
+import shutil
+import subprocess
+import tempfile
+from pathlib import Path
+
+from .counting import Broken, Trials, await_that, end, needed, run
+
+MIRROR = "http://deb.debian.org/debian"
+PATH = "PATH=/usr/sbin:/usr/bin:/sbin:/bin"
+ENV = ("env", "-i", PATH, "LC_ALL=C.UTF-8", "DEBIAN_FRONTEND=noninteractive")
+INCLUDE = "systemd,systemd-sysv,dbus"
+
+
+def make_base(trials: Trials, base: Path, package: Path) -> None:
+    """Makes a Debian 12 with the files of all packages that this one needs or recommends."""
+    if not (base / "etc/debian_version").exists():
+        needed("debootstrap", "--variant=minbase", f"--include={INCLUDE}", "bookworm", base, MIRROR)
+        trials.step("debootstrap of Debian 12")
+    shutil.copyfile("/etc/resolv.conf", base / "etc/resolv.conf")
+    shutil.copyfile(package, base / "bozintar.deb")
+    inside = ("chroot", base, *ENV)
+    needed(*inside, "apt-get", "update", "-q")
+    needed(*inside, "apt-get", "install", "-y", "-q", "--download-only", "/bozintar.deb")
+    (base / "bozintar.deb").unlink()
+    trials.step("packages that it needs are fetched")
+
+
+class Container:
+    """A root that has booted."""
+
+    def __init__(self, trials: Trials, base: Path, root: Path):
+        needed("cp", "-a", base, root)
+        (root / "etc/hosts").write_text("127.0.0.1 localhost\n", encoding="ascii")
+        self.root, self.trials = root, trials
+        words = ("--boot", "--register=no", "--keep-unit", "--private-network", "--resolv-conf=off")
+        with open(root.parent / "boot.log", "wb") as log:
+            how = {"stdout": log, "stderr": log, "start_new_session": True}
+            self.nspawn = trials.start("systemd-nspawn", "-q", "-D", root, *words, **how)
+        trials.at_end(lambda: end(self.nspawn, 40))
+        await_that("the first process of the root", self.first)
+        states = ("running\n", "degraded\n")
+        await_that("the boot", lambda: self.run("systemctl", "is-system-running")[1] in states, 120)
+
+    def first(self) -> str:
+        """The id of the process that is number 1 inside."""
+        if self.nspawn.poll() is not None:
+            log = (self.root.parent / "boot.log").read_text(encoding="utf-8", errors="replace")
+            raise Broken(f"systemd-nspawn ended: {log[-1000:]}")
+        pid = self.nspawn.pid
+        try:
+            found = Path(f"/proc/{pid}/task/{pid}/children").read_text(encoding="ascii").split()
+        except OSError:
+            return ""
+        return found[0] if found else ""
+
+    def words(self, *words: str) -> tuple[str, ...]:
+        """The words that run a command inside."""
+        return ("nsenter", "-t", self.first(), *"-m -u -i -n -p -r -w".split(), *ENV, *words)
+
+    def run(self, *words: str, timeout: float = 600) -> tuple[int, str, str]:
+        """Runs a command inside: its status, and both outputs."""
+        return run(*self.words(*words), timeout=timeout)
+
+    def does(self, *words: str, timeout: float = 600) -> str:
+        """What a command inside prints, which has to end well."""
+        return needed(*self.words(*words), timeout=timeout)
+
+    def start(self, *words: str, out: Path) -> "subprocess.Popen[str]":
+        """Starts a command inside whose output goes to a file."""
+        with open(out, "ab") as file:
+            return self.trials.start(*self.words(*words), stdout=file, stderr=file)
+
+    def put(self, source: Path, to: str) -> None:
+        """Copies a file into the root."""
+        shutil.copyfile(source, self.root / to.lstrip("/"))
+
+    def shows(self, unit: str, what: str) -> str:
+        """A property of a unit."""
+        return self.does("systemctl", "show", "-p", what, "--value", unit).strip()
+
+    def journal(self, unit: str, since: str = "-1h") -> str:
+        """What a unit has logged."""
+        return self.does("journalctl", "-u", unit, "--no-pager", "-o", "cat", "--since", since)
+
+
+def need_root() -> None:
+    """Ends the trial if it can't boot a root."""
+    if os.getuid():
+        raise Broken("--root needs root")
+    for program, package in {
+        "debootstrap": "debootstrap",
+        "systemd-nspawn": "systemd-container",
+        "nsenter": "util-linux",
+    }.items():
+        if not shutil.which(program):
+            raise Broken(f"there is no program {program}: apt-get install {package}")
+
+
+def scratch() -> Path:
+    """A folder for roots: not in /tmp, which may be in memory."""
+    return Path(tempfile.mkdtemp(prefix="package-trial-", dir="/var/tmp"))
