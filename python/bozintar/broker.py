@@ -125,8 +125,8 @@ class Broker:
         self.client.connect_async(self.access.address.host, self.access.address.port, KEEPALIVE)
 
     def end(self) -> None:
-        """Disconnects, if the broker is there. It doesn't wait for the library's thread, which would
-        stay until a broker that hangs has all messages."""
+        """Disconnects, if the broker is there. It doesn't wait for the library's thread, which
+        would stay until a broker that hangs has all messages."""
         if self.is_there():
             self.client.disconnect()
             self.is_gone.wait(GOODBYE)
