@@ -1,4 +1,4 @@
-"""A gateway's clock of microseconds in 32 bits, which wraps, and which begins again when the gateway
+"""A gateway's clock of microseconds in 32 bits, which wraps, and begins again when the gateway
 does."""
 
 from bozintar.wire import MICROSECONDS

@@ -159,9 +159,8 @@ def add_words(options: words.Words, power: int, unit: str = "dBm") -> None:
         metavar="EUI",
         help="a gateway, 16 hex digits; may be given several times",
     )
-    options.add_argument(
-        "--gateways", metavar="FILE", help="gateways, an EUI a line; # begins a comment"
-    )
+    named = "gateways, an EUI a line; # begins a comment"
+    options.add_argument("--gateways", metavar="FILE", help=named)
     options.add_argument(
         "--silent",
         type=words.between(1, 86400),

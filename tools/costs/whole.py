@@ -142,7 +142,8 @@ def keep(told):
         file.write("\n".join(told) + "\n")
 
 
-def main():
+def options():
+    """The options of the command."""
     words = Words(__doc__)
     words.add_argument(
         "--beside",
@@ -165,6 +166,11 @@ def main():
         type=commands.crate,
         help="measures only this crate and those below it",
     )
+    return words
+
+
+def main():
+    words = options()
     given = words.parse_args()
     if given.keep and given.crates:
         stop("it keeps the whole table alone", 2)
