@@ -1,5 +1,5 @@
 // The record of restores: from which JoinNonces the devices of a network continued.
-ghost use Rattle.std.specs.Prelude.{◌≡◌, ◌<◌, ◌^◌, ◌×◌, IfSome, Some};
+ghost use Rattle.std.specs.Prelude.{◌≡◌, ◌<◌, ◌^◌, IfSome, Some};
 ghost use Rattle.store_files.specs.Record.{session_text};
 
 use crate::FileFault;
