@@ -7,6 +7,8 @@ import re
 import shutil
 import subprocess
 import sys
+from collections.abc import Callable
+from typing import Any
 
 ROOT = os.path.dirname(os.path.dirname(os.path.realpath(__file__)))
 if __name__ == "__main__":
@@ -107,7 +109,12 @@ def program_of(given, crate):
 
 def commit_of(program):
     """Of which commit the sources of a program are."""
-    how = {"stdout": subprocess.PIPE, "stderr": subprocess.DEVNULL, "text": True, "check": False}
+    how: dict[str, Any] = {
+        "stdout": subprocess.PIPE,
+        "stderr": subprocess.DEVNULL,
+        "text": True,
+        "check": False,
+    }
     git = ["git", "-C", ROOT]
     commit = subprocess.run([*git, "rev-parse", "--verify", "HEAD"], **how).stdout.strip()
     if not commit:
@@ -134,9 +141,10 @@ def number_in(file, pattern):
     """The number that a file of the system has, or None."""
     try:
         with open(file, encoding="utf-8") as it:
-            return int(re.search(pattern, it.read())[1])
-    except (OSError, TypeError):
+            found = re.search(pattern, it.read())
+    except OSError:
         return None
+    return int(found[1]) if found else None
 
 
 def lanes():
@@ -162,7 +170,12 @@ def counted(said, status):
 
 def answer(word, *words):
     """Answers bin/programs.sh: by a status, or by a line."""
-    told = {"is_fresh": is_fresh, "is_built": is_built, "commit_of": commit_of}[word](*words)
+    answers: dict[str, Callable] = {
+        "is_fresh": is_fresh,
+        "is_built": is_built,
+        "commit_of": commit_of,
+    }
+    told = answers[word](*words)
     if isinstance(told, str):
         print(told)
     return 0 if told else 1
