@@ -145,7 +145,7 @@ def lost_item(story, device, network):
 
 
 def commands(story, device, network):
-    """LinkCheckReq is answered, and a MAC command is queued and answered."""
+    """LinkCheckReq is answered; then a MAC command."""
     story.part("LinkCheckReq is answered")
     near = Copy(B1, 868_100_000, 5, 12, -85, 70_000_000)
     far = Copy(B3, 868_100_000, 5, 2, -99, 78_070_000)
@@ -162,6 +162,11 @@ def commands(story, device, network):
         "of the best copy, 3 dB above a floor of -7.5 dB so 10 whole dB, and the number of "
         "gateways, 2. The application isn't told of this command."
     )
+    queued_command(story, device, network, near)
+
+
+def queued_command(story, device, network, near):
+    """A MAC command is queued and answered."""
     story.part("A MAC command is queued and answered")
     story.line(f"mac 75000 3 {METER} 06", "turn 10 11")
     story.line(f"mac 75001 3 {METER} 02", "turn 11 11 refused 18")

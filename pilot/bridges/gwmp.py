@@ -106,13 +106,13 @@ def signal_of(rxpk: dict) -> tuple[int, int]:
     and the best one counts."""
     antennas = [rxpk]
     if "lsnr" not in rxpk and isinstance(rxpk.get("rsig"), list) and rxpk["rsig"]:
-        antennas = [{**fields.table(it), "rssi": it.get("rssic")} for it in rxpk["rsig"]]
+        antennas = [{**fields.table(one), "rssi": one.get("rssic")} for one in rxpk["rsig"]]
     return max(
         (
-            fields.snr(it, "lsnr"),
-            round(fields.number(it, "rssi", -32768, 32767)),
+            fields.snr(antenna, "lsnr"),
+            round(fields.number(antenna, "rssi", -32768, 32767)),
         )
-        for it in antennas
+        for antenna in antennas
     )
 
 
