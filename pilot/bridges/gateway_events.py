@@ -1,4 +1,4 @@
-"""What ChirpStack's gateway bridge says and is told over MQTT, version 4, by its JSON marshaler."""
+"""The messages of ChirpStack's gateway bridge over MQTT, version 4, by its JSON marshaler."""
 
 import re
 from dataclasses import dataclass
@@ -96,7 +96,7 @@ def command(downlink: Downlink, number: int, context: bytes, powers: tuple[int, 
 
 
 def statuses(body: bytes) -> list[str]:
-    """The statuses of an event `ack`: one for each item that was tried or passed over."""
+    """The statuses of an event `ack`: one for each item, whether it was tried or not."""
     items = fields.table(fields.parsed(body)).get("items", [])
     if not isinstance(items, list):
         raise Wrong("items is no list")

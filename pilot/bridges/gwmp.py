@@ -1,5 +1,5 @@
-"""The protocol of Semtech's UDP packet forwarder (GWMP), versions 1 and 2: its datagrams, what it
-says of a frame that was heard (`rxpk`), and what it is told to send (`txpk`)."""
+"""The protocol of Semtech's UDP packet forwarder (GWMP), versions 1 and 2: its datagrams, its
+report of a frame that it heard (`rxpk`), and the order to send one (`txpk`)."""
 
 import re
 from dataclasses import dataclass
@@ -117,7 +117,7 @@ def signal_of(rxpk: dict) -> tuple[int, int]:
 
 
 def txpk_of(downlink: Downlink, window: Window, power: int) -> dict:
-    """What a gateway is told, so that it sends in this window. Power is in dBm."""
+    """The order to a gateway to send in this window. Power is in dBm."""
     return {
         "imme": False,
         "tmst": downlink.moment(window),

@@ -60,7 +60,7 @@ def spent_by(pid):
 
 
 def gate(crates):
-    """The words of the merge gate, with those that pass over what a kit keeps, where it does."""
+    """The words of the merge gate, with --anew if the kit keeps anything."""
     how: dict[str, Any] = {
         "stdout": subprocess.PIPE,
         "stderr": subprocess.STDOUT,
