@@ -32,14 +32,14 @@ def need_rt():
 def lines():
     """Each crate's line of crates.txt, in the file's order."""
     with open(f"{ROOT}/crates.txt", encoding="utf-8") as file:
-        told = [it.partition("#")[0].strip() for it in file]
-    return {it.split(":")[0].split()[0]: it for it in told if ":" in it}
+        told = [line.partition("#")[0].strip() for line in file]
+    return {line.split(":")[0].split()[0]: line for line in told if ":" in line}
 
 
 def libraries(of):
     """The repository's libraries that each crate's line names."""
     told = {crate: line.partition(":")[2].split() for crate, line in of.items()}
-    return {crate: [it for it in names if it in told] for crate, names in told.items()}
+    return {crate: [name for name in names if name in told] for crate, names in told.items()}
 
 
 def crate(name):
@@ -52,8 +52,8 @@ def crate(name):
 def below(crate, named):
     """The libraries that a crate stands on, each after its own."""
     found = []
-    for it in named[crate]:
-        found += [more for more in [*below(it, named), it] if more not in found]
+    for lower in named[crate]:
+        found += [more for more in [*below(lower, named), lower] if more not in found]
     return found
 
 
@@ -73,10 +73,10 @@ def sources_of(crate):
     """Each folder below a crate's own, and each source in it."""
     top = f"{ROOT}/crates/{crate}"
     for folder, folders, files in os.walk(top):
-        folders[:] = [it for it in folders if it not in ("out", "must-fail")]
+        folders[:] = [name for name in folders if name not in ("out", "must-fail")]
         if folder != top:
             yield folder
-        yield from (f"{folder}/{it}" for it in files if it.endswith(SOURCES))
+        yield from (f"{folder}/{name}" for name in files if name.endswith(SOURCES))
 
 
 def is_fresh(made, crate):
@@ -85,8 +85,8 @@ def is_fresh(made, crate):
         at = os.stat(made).st_mtime_ns
     except FileNotFoundError:
         return False
-    sources = (it for below in crates_of(crate) for it in sources_of(below))
-    return all(os.stat(it).st_mtime_ns <= at for it in (f"{ROOT}/crates.txt", *sources))
+    sources = (source for below in crates_of(crate) for source in sources_of(below))
+    return all(os.stat(source).st_mtime_ns <= at for source in (f"{ROOT}/crates.txt", *sources))
 
 
 def is_built(crate):
@@ -119,7 +119,7 @@ def commit_of(program):
     commit = subprocess.run([*git, "rev-parse", "--verify", "HEAD"], **how).stdout.strip()
     if not commit:
         return "a commit that isn't known"
-    paths = ["crates.txt", *(f"crates/{it}" for it in crates_of(program))]
+    paths = ["crates.txt", *(f"crates/{crate}" for crate in crates_of(program))]
     changed = subprocess.run([*git, "status", "--porcelain", "--", *paths], **how).stdout
     return f"commit {commit}" + ", with changes" * bool(changed)
 
@@ -140,8 +140,8 @@ def by_word(text, package):
 def number_in(file, pattern):
     """The number that a file of the system has, or None."""
     try:
-        with open(file, encoding="utf-8") as it:
-            found = re.search(pattern, it.read())
+        with open(file, encoding="utf-8") as text:
+            found = re.search(pattern, text.read())
     except OSError:
         return None
     return int(found[1]) if found else None
@@ -154,7 +154,7 @@ def lanes():
         return int(fixed)
     free = [1024 * (number_in("/proc/meminfo", r"MemAvailable:\s+(\d+)") or 0)]
     group = "/sys/fs/cgroup/memory."
-    limit, used = (number_in(group + it, r"(\d+)") for it in ("max", "current"))
+    limit, used = (number_in(group + name, r"(\d+)") for name in ("max", "current"))
     if limit and used is not None:
         free.append(limit - used)
     return max(1, min(len(os.sched_getaffinity(0)), min(free) // MEMORY))

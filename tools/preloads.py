@@ -184,8 +184,8 @@ def made(source, folder):
     if not compiler:
         raise NoCompiler
     file = os.path.join(folder, "preload.c")
-    with open(file, "w", encoding="utf-8") as it:
-        it.write(source)
+    with open(file, "w", encoding="utf-8") as code:
+        code.write(source)
     library = f"{file}.so"
     subprocess.run([compiler, "-shared", "-fPIC", "-o", library, file, "-ldl"], check=True)
     return library
@@ -193,4 +193,4 @@ def made(source, folder):
 
 def environment(library, **settings):
     """The environment of a program in which the library replaces what it replaces."""
-    return {**os.environ, "LD_PRELOAD": library, **{it: str(to) for it, to in settings.items()}}
+    return {**os.environ, "LD_PRELOAD": library, **{name: str(to) for name, to in settings.items()}}
