@@ -94,7 +94,7 @@ class Gate:
         """Reads what its processes have spent. Whether it still runs."""
         if self.minutes is not None:
             return False
-        # which tells what was used, as Popen's own wait doesn't
+        # which returns what was used, as Popen's own wait doesn't
         pid, status, used = os.wait4(self.pid, os.WNOHANG)
         if pid:
             self.status = self.running.returncode = os.waitstatus_to_exitcode(status)
