@@ -6,7 +6,8 @@ import tempfile
 from bozintar.fields import Wrong
 from bridges import devices
 from bridges.application_events import Item, Translator, refusal, status
-from .gateway_rows import outcome
+
+from .rows import outcome, table
 
 DEVICE = "0101010101010101"
 INFO = {"applicationId": "3", "devEui": DEVICE}
@@ -96,15 +97,15 @@ FILES = (
 
 # a line that refuses, and how its code begins
 REFUSED = (("refused 12", "QUEUE_FULL"), ("refused 99", "REFUSED_99"))
-REFUSED += tuple((it, "REFUSED") for it in ("refused", "refused ", "refused x", "refused 1 2"))
+REFUSED += tuple((line, "REFUSED") for line in ("refused", "refused ", "refused x", "refused 1 2"))
 
 
 def translated(line: str):
     """The kind of a line's event, and what it says besides whose it is and when."""
-    it = Translator(3, {(DEVICE, 9): "3ac7e3c4"}).event(line, TIME)
-    if (it.body.pop("time"), it.body.pop("deviceInfo")) != (TIME, INFO):
+    event = Translator(3, {(DEVICE, 9): "3ac7e3c4"}).event(line, TIME)
+    if (event.body.pop("time"), event.body.pop("deviceInfo")) != (TIME, INFO):
         return "another device"
-    return it.kind, it.body
+    return event.kind, event.body
 
 
 def asked(text: str):
@@ -118,33 +119,47 @@ def read(text: str):
         file.write(text.encode())
         file.flush()
         found = devices.read(file.name)
-    lines = [it for it in found if isinstance(it, devices.Row)]
-    faults = [f"line {it.place}: {it.why}" for it in found if isinstance(it, devices.Fault)]
-    return [it.line().removeprefix("provision ") for it in lines] + faults
+    lines = [row for row in found if isinstance(row, devices.Row)]
+    faults = [f"line {row.place}: {row.why}" for row in found if isinstance(row, devices.Fault)]
+    return [row.line().removeprefix("provision ") for row in lines] + faults
 
 
-def of_applications(trials):
-    """The rows of ChirpStack's events and commands, and of files of devices."""
-    heard = "0016C001F153A14C 867100000 1 42 -36"
-    event = Translator(3, {}).event(f"up {DEVICE} 5 10 1 AA 2 {heard}", TIME)
-    again = Translator(3, {}).event(f"up {DEVICE} 5 10 1 AA 2 {heard}", "later")
-    came = event.body.pop("deduplicationId")
-    trials.compare("up", (event.kind, event.body), ("up", UP))
-    trials.compare("its identifier again", again.body["deduplicationId"], came)
-    topic = f"application/3/device/{DEVICE}/event/up"
-    trials.compare("its topic", event.topic(3), topic)
-    for line, due in LINES:
-        trials.compare(line, outcome(translated, line), due)
-    for (battery, margin), due in STATUSES:
-        trials.compare(f"battery {battery}", tuple(status(battery, margin).values()), due)
-    for text, due in COMMANDS:
-        text, due = (it % DEVICE if "%s" in it else it for it in (text, str(due)))
-        came = outcome(asked, text)
-        trials.compare(f"down {text}", str(came), due)
-    for line, due in REFUSED:
-        trials.compare(line, refusal(line)[0], due)
-    for text, due in FILES:
-        trials.compare(f"file {text[:50]!r}", read(text), due)
+def test_event_up():
+    """The event of a reading. Its identifier is the same if it comes again."""
+    line = f"up {DEVICE} 5 10 1 AA 2 0016C001F153A14C 867100000 1 42 -36"
+    event, again = (Translator(3, {}).event(line, moment) for moment in (TIME, "later"))
+    identifier = event.body.pop("deduplicationId")
+    assert (event.kind, event.body) == ("up", UP)
+    assert again.body["deduplicationId"] == identifier
+    assert event.topic(3) == f"application/3/device/{DEVICE}/event/up"
 
 
-TOPICS = {"rows of ChirpStack's events, and of files of devices": of_applications}
+@table("line, due", LINES)
+def test_event(line, due):
+    """The event of a line."""
+    assert outcome(translated, line) == due
+
+
+@table("answer, due", STATUSES)
+def test_status(answer, due):
+    """A device's battery and margin."""
+    assert tuple(status(*answer).values()) == due
+
+
+@table("text, due", COMMANDS)
+def test_command_down(text, due):
+    """What is asked for a command."""
+    text, due = (word % DEVICE if "%s" in word else word for word in (text, str(due)))
+    assert str(outcome(asked, text)) == due
+
+
+@table("line, code", REFUSED)
+def test_refusal(line, code):
+    """The code of what the network refuses."""
+    assert refusal(line)[0] == code
+
+
+@table("text, due", FILES)
+def test_devices(text, due):
+    """What is read of a file of devices."""
+    assert read(text) == due

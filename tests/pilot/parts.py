@@ -7,7 +7,7 @@ from typing import Any
 from bozintar.processes import HOST, Failed, Process, Processes, command, free_port
 from bozintar.server import Program
 
-PILOT = Path(__file__).resolve().parents[1]
+PILOT = Path(__file__).resolve().parents[2] / "pilot"
 
 
 class Parts(Processes):

@@ -1,5 +1,7 @@
 """A field: meters, gateways that hear them, and the bridge that those gateways come by."""
 
+from typing import Any
+
 from bozintar.forwarders import Air, Forwarder
 from bozintar.meters import Meter
 from bozintar.processes import HOST, Process
@@ -15,12 +17,12 @@ FORWARDERS = ((2, 90_000_000), (1, 2**32 - 3_000_000), (2, 77))
 class Field:
     """Meters and gateways of a pilot. By itself the gateways come by UDP."""
 
-    def __init__(self, trials, pilot: Pilot, meters: int):
-        self.trials, self.pilot = trials, pilot
-        self.named = [word for it in GATEWAYS for word in ("--gateway", it)]
+    def __init__(self, pilot: Pilot, meters: int):
+        self.pilot = pilot
+        self.named = [word for eui in GATEWAYS for word in ("--gateway", eui)]
         self.named += ["--network", pilot.network, "--counts", pilot.file("gateways.prom")]
         self.gateways = self.start_gateways()
-        self.air = Air(self.make_gateways(), [Meter(it) for it in range(meters)])
+        self.air = Air(self.make_gateways(), [Meter(number) for number in range(meters)])
 
     def start_gateways(self) -> Process:
         """The bridge of the gateways."""
@@ -29,33 +31,37 @@ class Field:
 
     def make_gateways(self) -> list:
         """The gateways of the field."""
-        return [Forwarder(it, self.pilot.udp_port, *how) for it, how in zip(GATEWAYS, FORWARDERS)]
+        return [Forwarder(eui, self.pilot.udp_port, *how) for eui, how in zip(GATEWAYS, FORWARDERS)]
 
     @property
     def meters(self) -> list[Meter]:
+        """Its meters."""
         return self.air.meters
 
-    def link(self):
+    def link(self) -> None:
         """Waits until each gateway has its link."""
-        due = [f"gateway {it}: linked" for it in GATEWAYS]
-        self.air.go_on(20, lambda: all(it in self.gateways.said() for it in due))
+        due = [f"gateway {eui}: linked" for eui in GATEWAYS]
+        self.air.go_on(20, lambda: all(text in self.gateways.said() for text in due))
 
-    def send(self, frame: bytes, hz=868_100_000, data_rate=5, by=None):
+    def send(
+        self, frame: bytes, hz: int = 868_100_000, data_rate: int = 5, by: list | None = None
+    ) -> None:
         """Gateways hear a frame, the first of them best."""
-        for place, it in enumerate(by or self.air.gateways):
-            it.hears(frame, hz, data_rate, snr=8 - place, rssi=-70 - place)
+        for place, gateway in enumerate(by or self.air.gateways):
+            gateway.hears(frame, hz, data_rate, snr=8 - place, rssi=-70 - place)
 
-    def join(self, pause=0.03, seconds=40.0) -> bool:
+    def join(self, pause: float = 0.03, seconds: float = 40.0) -> bool:
         """All meters join, those again that no accept came to."""
         for tries in range(4):
-            for it in (it for it in self.meters if not it.keys):
-                self.send(it.join_request())
+            for meter in (meter for meter in self.meters if not meter.keys):
+                self.send(meter.join_request())
                 self.air.go_on(pause)
-            if self.air.go_on(seconds / 2**tries, lambda: all(it.keys for it in self.meters)):
+            are_in = lambda: all(meter.keys for meter in self.meters)
+            if self.air.go_on(seconds / 2**tries, are_in):
                 return True
         return False
 
-    def reading(self, meter: Meter, seconds=10.0, **how) -> bool:
+    def reading(self, meter: Meter, seconds: float = 10.0, **how: Any) -> bool:
         """A confirmed reading; whether it was acknowledged."""
         self.send(meter.reads(), **how)
         mark = meter.awaited
@@ -65,6 +71,6 @@ class Field:
 def counts_in(file: str) -> dict[str, int]:
     """The counts of a file for node_exporter, by their names without "pilot" and "total"."""
     with open(file, encoding="utf-8") as lines:
-        pairs = [it.split() for it in lines if not it.startswith("#")]
+        pairs = [line.split() for line in lines if not line.startswith("#")]
     bare = [(name.partition("{")[0], int(value)) for name, value in pairs]
     return {name.removeprefix("pilot_").removesuffix("_total"): value for name, value in bare}

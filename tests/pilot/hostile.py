@@ -41,7 +41,7 @@ def datagram(chance: random.Random) -> bytes:
 
 def flood(port: int, chance: random.Random, count: int) -> int:
     """Sends so many of them; how many those are."""
-    with socket.socket(socket.AF_INET, socket.SOCK_DGRAM) as it:
+    with socket.socket(socket.AF_INET, socket.SOCK_DGRAM) as stranger:
         for _ in range(count):
-            it.sendto(datagram(chance), (HOST, port))
+            stranger.sendto(datagram(chance), (HOST, port))
     return count
