@@ -122,7 +122,7 @@ def by_word(text, package):
 
     def main():
         words = Words(text)
-        words.add_argument("word", metavar="WORD", choices=package.WORDS)
+        words.add_argument("word", metavar="WORD", choices=package.WORDS, help="one of these words")
         name = words.parse_args(sys.argv[1:2]).word
         sys.argv[:2] = [f"{sys.argv[0]} {name}"]
         return importlib.import_module(f"{package.__name__}.{name}").main()

@@ -4,7 +4,9 @@ left out, or has a name of its own."""
 
 import re
 import uuid
+from collections.abc import Callable
 from dataclasses import dataclass
+from typing import Any
 
 from bozintar import fields
 from bozintar.fields import Wrong
@@ -13,6 +15,8 @@ from bozintar.wire import byte_text, bytes_of
 # of identifiers that follow from what they name, so that what comes twice has the same one
 SPACE = uuid.UUID("6f7a0c0e-7d0b-5f0e-9d57-0a3c5e1f7b21")
 MOST_ITEM = 242
+# an event's kind, and what it says besides whose it is and when
+Named = tuple[str, dict]
 DEV_STATUS_ANS = 6
 # the numbers of docs/FORMATS.md that a request may be refused with
 REFUSALS = {
@@ -75,7 +79,7 @@ class Item:
         return f"queue {self.device} {tag} {self.port} {kind} {shown}"
 
 
-def identifier(*of) -> str:
+def identifier(*of: Any) -> str:
     """An identifier that follows from what it names."""
     return str(uuid.uuid5(SPACE, " ".join(map(str, of))))
 
@@ -98,9 +102,10 @@ class Translator:
         self.application, self.names = application, names
 
     def event(self, line: str, time: str) -> Event:
-        """The event of a line. `time` is when it came."""
+        """The event of a line. `time` is when it came. A later server may add words at the end of a
+        line, which are ignored."""
         kind, device, *words = line.split(" ")
-        of_kind = {
+        of_kind: dict[str, Callable[..., Named]] = {
             "up": self.up,
             "acked": self.acked,
             "lost": self.lost,
@@ -112,16 +117,30 @@ class Translator:
             raise Wrong(f"a line {kind[:20]}")
         if not re.fullmatch("[0-9A-F]{16}", device):
             raise Wrong(f"a line {kind} of no device")
-        told, body = of_kind[kind](device, *words)
+        name, body = of_kind[kind](device, *words)
         base = {"time": time, "deviceInfo": self.device_info(device)}
-        return Event(device, told, {**base, **body})
+        return Event(device, name, {**base, **body})
 
     def device_info(self, device: str) -> dict:
         """Whose event it is."""
         return {"applicationId": str(self.application), "devEui": device.lower()}
 
-    def up(self, device, session, counter, port, payload, copies, gateway, hz, rate, snr, rssi):
-        """A reading. It was heard by `copies` gateways, of which the best one is told."""
+    def up(
+        self,
+        device: str,
+        session: str,
+        counter: str,
+        port: str,
+        payload: str,
+        copies: str,
+        gateway: str,
+        hz: str,
+        rate: str,
+        snr: str,
+        rssi: str,
+        *_more: str,
+    ) -> Named:
+        """A reading. `copies` gateways heard it; the words after that are of the best one."""
         lora = {"bandwidth": 125000, "spreadingFactor": 12 - int(rate), "codeRate": "CR_4_5"}
         best = {"gatewayId": gateway.lower(), "rssi": int(rssi), "snr": int(snr) / 4}
         return "up", {
@@ -136,30 +155,30 @@ class Translator:
             "txInfo": {"frequency": int(hz), "modulation": {"lora": lora}},
         }
 
-    def acked(self, device, tag):
+    def acked(self, device: str, tag: str, *_more: str) -> Named:
         """The device acknowledged an item."""
         return "ack", {**self.item(device, tag), "acknowledged": True}
 
-    def lost(self, device, tag):
+    def lost(self, device: str, tag: str, *_more: str) -> Named:
         """The device didn't acknowledge an item."""
         return "ack", {**self.item(device, tag), "acknowledged": False}
 
-    def queued(self, device, tag):
+    def queued(self, device: str, tag: str, *_more: str) -> Named:
         """An item waits."""
         return "queued", self.item(device, tag)
 
-    def item(self, device, tag) -> dict:
-        """Which item it was: by the id that it was asked with, where that is known still."""
+    def item(self, device: str, tag: str) -> dict:
+        """Which item it was: by the id that it was asked with, if that is still known."""
         return {"queueItemId": self.names.get((device, int(tag)), tag), "tag": int(tag)}
 
-    def mac(self, _device, session, commands):
+    def mac(self, _device: str, session: str, commands: str, *_more: str) -> Named:
         """The device sent MAC commands; its status has an event of its own."""
         said = bytes_of(commands)
         if len(said) == 3 and said[0] == DEV_STATUS_ANS:
             return "status", status(said[1], said[2])
         return "mac", {"joinNonce": int(session), "commands": commands}
 
-    def spent(self, _device, session):
+    def spent(self, _device: str, session: str, *_more: str) -> Named:
         """The session has no downlink counter left."""
         code = {"level": "ERROR", "code": "FRAME_COUNTERS_SPENT", "joinNonce": int(session)}
         return "log", {**code, "description": "the session has no downlink counter left"}
@@ -185,7 +204,7 @@ def status(battery: int, margin: int) -> dict:
 
 def refusal(line: str) -> tuple[str, str]:
     """The code and the description of a line `refused`, which may have no number in it."""
-    found = re.fullmatch(r"refused ([0-9]{1,3})", line)
+    found = re.fullmatch(r"refused ([0-9]{1,3})(?: .*)?", line)
     if not found:
         return "REFUSED", "the network doesn't say why"
     number = int(found[1])

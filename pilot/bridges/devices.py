@@ -1,16 +1,16 @@
-"""Devices in a file of values that commas or semicolons part (CSV)."""
+"""Devices in a file of values between commas or semicolons (CSV)."""
 
 import re
 from dataclasses import dataclass
 
-# what the first three fields of a head are called; the others have names of many kinds
+# the names of the first three fields of a head; the others have names of many kinds
 HEAD = ("deveui", "joineui", "appkey")
 HEX = re.compile(r"[0-9A-Fa-f]*")
 
 
 @dataclass(frozen=True)
 class Row:
-    """A device that is to be provisioned, and the line of the file that it stands in."""
+    """A device to be provisioned, and its line of the file."""
 
     place: int
     dev_eui: str
@@ -27,7 +27,7 @@ class Row:
 
 @dataclass(frozen=True)
 class Fault:
-    """A line that isn't a device. It isn't repeated, since it may have a key."""
+    """A line that isn't a device. The text isn't kept, since it may have a key."""
 
     place: int
     why: str
@@ -68,12 +68,12 @@ def device_of(place: int, row: list[str]) -> Row | Fault:
 
 def read(file: str) -> list[Row | Fault]:
     """All lines of a file; the first may name the fields, and # begins a comment."""
-    found = []
+    found: list[Row | Fault] = []
     with open(file, encoding="utf-8-sig", errors="replace") as text:
         for place, line in enumerate(text, 1):
             bare = line.partition("#")[0].strip()
-            row = [it.strip().strip('"') for it in re.split("[,;\t]", bare)] if bare else []
-            names = tuple(re.sub(r"[^a-z0-9]", "", it.lower()) for it in row[:3])
+            row = [part.strip().strip('"') for part in re.split("[,;\t]", bare)] if bare else []
+            names = tuple(re.sub(r"[^a-z0-9]", "", name.lower()) for name in row[:3])
             if row and (found or names != HEAD):
                 found.append(device_of(place, row))
     return found

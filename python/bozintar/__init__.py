@@ -1,9 +1,9 @@
 """The library of the programs, trials and tools around lnsd.
 
-What plays devices and gateways, and speaks with the server (`aes`, `frames`, `devices`, `meters`,
-`forwarders`, `network`, `wire`, `links`, `server`), is written from the standards and docs/FORMATS.md
-alone: it shares no line with the server. It needs Python's standard library alone. `mqtt`, `broker`
-and `counts` need packages of Debian (pilot/install)."""
+What plays devices and gateways and speaks with the server (`aes`, `frames`, `devices`, `meters`,
+`forwarders`, `network`, `wire`, `links`) is written from the standards and docs/FORMATS.md alone:
+it shares no line with the server. It needs Python's standard library alone; `mqtt`, `broker` and
+`counts` need packages of Debian (pilot/install)."""
 
 import sys
 

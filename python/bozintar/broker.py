@@ -37,11 +37,22 @@ class Access:
     key: str | None = None
 
     @staticmethod
-    def add_words(words: argparse.ArgumentParser) -> None:
+    def add_words(words: argparse.ArgumentParser, is_required: bool = True) -> None:
         """The options about a broker."""
-        words.add_argument("--broker", type=Address.read, required=True, metavar="HOST:PORT")
-        for it in ("--ca", "--certificate", "--key"):
-            words.add_argument(it, metavar="FILE")
+        words.add_argument(
+            "--broker",
+            type=Address.read,
+            required=is_required,
+            metavar="HOST:PORT",
+            help="where the MQTT broker listens, for example 127.0.0.1:1883",
+        )
+        files = {
+            "ca": "the authority of the broker's certificate; without it there is no TLS",
+            "certificate": "this client's certificate, with --ca and --key",
+            "key": "the key of that certificate",
+        }
+        for name, what in files.items():
+            words.add_argument(f"--{name}", metavar="FILE", help=what)
 
     @classmethod
     def of(cls, given: Any) -> "Access":
@@ -114,8 +125,8 @@ class Broker:
         self.client.connect_async(self.access.address.host, self.access.address.port, KEEPALIVE)
 
     def end(self) -> None:
-        """Disconnects, if the broker is there. It doesn't wait for the library's thread, which would
-        stay until a broker that hangs has all messages."""
+        """Disconnects, if the broker is there. It doesn't wait for the library's thread, which
+        would stay until a broker that hangs has all messages."""
         if self.is_there():
             self.client.disconnect()
             self.is_gone.wait(GOODBYE)

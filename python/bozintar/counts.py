@@ -1,22 +1,69 @@
-"""What a program counts, as the text that Prometheus' node_exporter reads from a file."""
+"""Numbers for Prometheus, in its text format, which node_exporter reads from a file. The library is
+Debian's python3-prometheus-client."""
 
 import asyncio
 import os
+from collections.abc import Iterable
+from typing import Any
 
-from .words import log
+from .debian import library
+from .words import log, stop
 
+prometheus = library("prometheus_client")
 EVERY = 10.0
+COUNTS_HELP = "writes counts there every ten seconds, for node_exporter; name it *.prom"
+
+
+def need_it() -> None:
+    """Ends with a line if there is no library."""
+    if not prometheus:
+        stop(
+            "there is no Python library prometheus_client; pilot/install has the system install it"
+        )
+
+
+class Metric:
+    """A metric, a gauge or a counter, with its samples: numbers by the values of their labels. Of a
+    counter the library writes the name with "_total" behind it."""
+
+    def __init__(self, name: str, kind: str, text: str):
+        need_it()
+        self.family = prometheus.Metric(name, text, kind)
+        self.written = f"{name}_total" if kind == "counter" else name
+
+    def add(self, number: float, **labels: str) -> None:
+        """One more sample."""
+        self.family.add_sample(self.written, labels, number)
+
+
+class Collected:
+    """What the library writes."""
+
+    def __init__(self, metrics: Iterable[Metric]):
+        self.metrics = list(metrics)
+
+    def collect(self) -> list[Any]:
+        """The metrics, as the library wants them."""
+        return [metric.family for metric in self.metrics]
+
+
+def text_of(metrics: Iterable[Metric]) -> str:
+    """The text of metrics."""
+    need_it()
+    registry = prometheus.CollectorRegistry()
+    registry.register(Collected(metrics))
+    return prometheus.generate_latest(registry).decode()
 
 
 class Counts:
-    """Counts by their names, each with a sentence on what it counts. Labels tell apart what two
+    """Counts by their names, each with a sentence on what it counts. Labels distinguish what two
     programs count under one prefix: node_exporter takes no number twice."""
 
-    def __init__(
-        self, prefix: str, helps: dict[str, str], file: str | None = None, labels: str = ""
-    ):
+    def __init__(self, prefix: str, helps: dict[str, str], file: str | None = None, **labels: str):
         self.prefix, self.helps, self.file, self.labels = prefix, helps, file, labels
         self.values = dict.fromkeys(helps, 0)
+        if file:
+            need_it()
 
     def add(self, name: str, more: int = 1) -> None:
         """Counts something."""
@@ -24,12 +71,11 @@ class Counts:
 
     def text(self) -> str:
         """All of them, in Prometheus' text format."""
-        lines = []
+        metrics = []
         for name, value in self.values.items():
-            whole = f"{self.prefix}_{name}_total"
-            lines += [f"# HELP {whole} {self.helps[name]}", f"# TYPE {whole} counter"]
-            lines.append(f"{whole}{self.labels} {value}")
-        return "\n".join(lines) + "\n"
+            metrics.append(Metric(f"{self.prefix}_{name}", "counter", self.helps[name]))
+            metrics[-1].add(value, **self.labels)
+        return text_of(metrics)
 
     def summary(self) -> str:
         """Those that aren't 0, in a line."""

@@ -1,7 +1,7 @@
 """A second codec of the network's messages, a duplicate of `wire` on purpose: an oracle. Trials
-compare the two, and the network that trials play speaks by this one, so that a fault in `wire` can't
-hide in both ends of a link. It shares no line with `wire`, and is written from docs/FORMATS.md too.
-Only trials use it."""
+compare the two, and the network that trials play speaks by this one, so that a fault in `wire`
+can't hide in both ends of a link. It shares no line with `wire`, and is written from
+docs/FORMATS.md too. Only trials use it."""
 
 
 def message(content: bytes) -> bytes:

@@ -56,10 +56,6 @@ class Program:
         self.server: Process | None = None
         self.address: tuple[str, int] | None = None
 
-    def is_there(self) -> bool:
-        """Whether the program is built."""
-        return is_program(self.path)
-
     def run(self, *words: str, seconds: float = 60, **how: Any) -> Ended:
         """Runs a command of the program; its status, standard output and standard error."""
         try:

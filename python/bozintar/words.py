@@ -173,8 +173,8 @@ def end_on(numbers: Iterable[int]) -> None:
 def end_with(
     main: Callable[[], int], signals: Iterable[int] = (signal.SIGTERM, signal.SIGHUP)
 ) -> NoReturn:
-    """Ends with the status of `main`, without a traceback of an interrupt, a missing file, or output
-    that can't be written. These signals end the program, and it tidies up."""
+    """Ends with the status of `main`, without a traceback of an interrupt, a missing file, or
+    output that can't be written. These signals end the program, and it tidies up."""
     end_on(signals)
     try:
         status = status_of(main)

@@ -72,5 +72,5 @@ def counts_in(file: str) -> dict[str, int]:
     """The counts of a file for node_exporter, by their names without "pilot" and "total"."""
     with open(file, encoding="utf-8") as lines:
         pairs = [line.split() for line in lines if not line.startswith("#")]
-    bare = [(name.partition("{")[0], int(value)) for name, value in pairs]
+    bare = [(name.partition("{")[0], int(float(value))) for name, value in pairs]
     return {name.removeprefix("pilot_").removesuffix("_total"): value for name, value in bare}

@@ -3,6 +3,7 @@ its format: ChirpStack's events and commands (version 4), docs/FORMATS.md."""
 
 import tempfile
 
+import pytest
 from bozintar.fields import Wrong
 from bridges import devices
 from bridges.application_events import Item, Translator, refusal, status
@@ -27,6 +28,14 @@ UP = {
 }
 ITEM = {"queueItemId": "5", "tag": 5}
 KNOWN = {"queueItemId": "3ac7e3c4", "tag": 9}
+SPENT = {
+    "level": "ERROR",
+    "code": "FRAME_COUNTERS_SPENT",
+    "joinNonce": 5,
+    "description": "the session has no downlink counter left",
+}
+# words that a later server may add at the end of a line
+LATER = "7 later words"
 STATUS = {
     "margin": 20,
     "externalPowerSource": False,
@@ -39,6 +48,7 @@ LINES = (
     (f"acked {DEVICE} 5", ("ack", {**ITEM, "acknowledged": True})),
     (f"lost {DEVICE} 9", ("ack", {**KNOWN, "acknowledged": False})),
     (f"queued {DEVICE} 9", ("queued", KNOWN)),
+    (f"spent {DEVICE} 5", ("log", SPENT)),
     (f"mac {DEVICE} 5 068014", ("status", STATUS)),
     (f"mac {DEVICE} 5 0307", ("mac", {"joinNonce": 5, "commands": "0307"})),
     (f"hello {DEVICE}", Wrong),
@@ -95,9 +105,10 @@ FILES = (
     (f"\n{DEVICE}", ["line 2: 1 fields, and not 3 to 5"]),
 )
 
-# a line that refuses, and how its code begins
+# a line that refuses, and its code
 REFUSED = (("refused 12", "QUEUE_FULL"), ("refused 99", "REFUSED_99"))
-REFUSED += tuple((line, "REFUSED") for line in ("refused", "refused ", "refused x", "refused 1 2"))
+REFUSED += ((f"refused 12 {LATER}", "QUEUE_FULL"), ("refused 1 2", "REFUSED_1"))
+REFUSED += tuple((line, "REFUSED") for line in ("refused", "refused ", "refused x", "refused x 12"))
 
 
 def translated(line: str):
@@ -124,9 +135,10 @@ def read(text: str):
     return [row.line().removeprefix("provision ") for row in lines] + faults
 
 
-def test_event_up():
+@pytest.mark.parametrize("more", ("", f" {LATER}"), ids=("today", "later"))
+def test_event_up(more):
     """The event of a reading. Its identifier is the same if it comes again."""
-    line = f"up {DEVICE} 5 10 1 AA 2 0016C001F153A14C 867100000 1 42 -36"
+    line = f"up {DEVICE} 5 10 1 AA 2 0016C001F153A14C 867100000 1 42 -36{more}"
     event, again = (Translator(3, {}).event(line, moment) for moment in (TIME, "later"))
     identifier = event.body.pop("deduplicationId")
     assert (event.kind, event.body) == ("up", UP)
@@ -134,10 +146,11 @@ def test_event_up():
     assert event.topic(3) == f"application/3/device/{DEVICE}/event/up"
 
 
+@pytest.mark.parametrize("more", ("", f" {LATER}"), ids=("today", "later"))
 @table("line, due", LINES)
-def test_event(line, due):
-    """The event of a line."""
-    assert outcome(translated, line) == due
+def test_event(line, more, due):
+    """The event of a line, also if a later server adds words."""
+    assert outcome(translated, line + more) == due
 
 
 @table("answer, due", STATUSES)

@@ -17,6 +17,7 @@ from .parts import PILOT, Pilot
 SAMPLE = re.compile(r'([a-zA-Z_:][a-zA-Z0-9_:]*)(\{[a-z]+="(?:[^"\\\n]|\\["\\n])*"\})? (\S+)')
 STATUS = """listening 1:2
 made 7
+windows 3 and later words
 longest_sync_us 1500
 last_copy_00000000000000B1 2500
 later-one 9
@@ -30,6 +31,7 @@ DUE = {
     "lnsd_up": 1.0,
     "lnsd_listening": 1.0,
     "lnsd_decisions_total": 7.0,
+    "lnsd_windows": 3.0,
     "lnsd_longest_sync_seconds": 0.0015,
     'lnsd_last_copy_seconds{gateway="00000000000000B1"}': 2.5,
     'lnsd_last_copy_seconds{gateway="00000000000000B2"}': 3.5,
@@ -169,6 +171,6 @@ def test_ends_of_certificates(tmp_path: Path):
     name = 'pilot_certificate_end_seconds{file="%s/%s.crt"}'
     due = {name % (tmp_path, authority) for authority in ("ca", "none")}
     assert set(came) == {"lnsd_up"} | due
-    ends = sorted(int(came[name]) for name in due)
+    ends = sorted(int(float(came[name])) for name in due)
     assert ends[0] == 0, "of what is none"
     assert abs(ends[1] - time.time() - 10 * 86400) < 600, "of the authority's"

@@ -1,14 +1,12 @@
-"""gate-costs edits CRATE [EDIT..]: what each must-fail edit of a crate costs beyond a check that
-finds nothing to do, in processor seconds, and what the prover said first. Run `rt check --jobs 1`
-in the crate first: the edits are tried over a copy of the work that it kept, as the merge gate
-tries them over its own.
+"""Prints what each must-fail edit of a crate costs beyond a check that finds nothing to do, in
+processor seconds, and what the prover printed first. Run `rt check --jobs 1` in the crate before:
+the edits are tried over a copy of the work that it kept, as the merge gate tries them.
 
-`search` is the part of the seconds in which the prover tells what it found (the stages behind its
-check): where it is above a second, the broken goal was searched for, with help printed; answer it
-(see docs/GATE_COSTS.md).
+`search` is the part of the seconds in which the prover reports what it found (the stages after its
+check). If it is above a second, the prover searched for the broken goal and printed help; answer
+the goal (see docs/GATE_COSTS.md).
 
-Status: 0; 1 where no check of the crate kept anything; 2 for a word that it doesn't take; 127 where
-rt isn't there. --help prints this."""
+Status: 0; 1 if no check of the crate kept anything; 2 for a wrong word; 127 if there is no rt."""
 import importlib.machinery
 import importlib.util
 import os
@@ -53,8 +51,10 @@ def tried(rt, crate, texts, kept):
 
 def main():
     words = Words(__doc__)
-    words.add_argument("crate", metavar="CRATE", type=commands.crate)
-    words.add_argument("edits", nargs="*", metavar="EDIT")
+    words.add_argument("crate", metavar="CRATE", type=commands.crate, help="the crate")
+    words.add_argument(
+        "edits", nargs="*", metavar="EDIT", help="this edit; without it, all edits of the crate"
+    )
     given = words.parse_args()
     commands.need_rt()
     rt = toolchain()

@@ -1,13 +1,12 @@
-"""gate-costs functions CRATE..: the five dearest functions of each crate's last `rt check --jobs 1`
-from nothing, by the megabytes that the prover keeps of them, and their seconds.
+"""Prints the five most expensive functions of each crate's last `rt check --jobs 1` from nothing:
+by the megabytes that the prover keeps of them, and their seconds.
 
 The prover keeps a file for each module that it has checked, so the time between two files is that
-of a module. It says as much of the machine's load as of the function; the size of the files
-doesn't: a megabyte is a second or so of a quiet machine. A function's modules are its code (Lts,
-Tie, Kinds), its answers and its proof; the largest two are named.
+of a module. This time depends on the load of the machine as much as on the function. The size of
+the files doesn't: a megabyte is about a second of a quiet machine. A function's modules are its
+code (Lts, Tie, Kinds), its answers and its proof; the largest two are named.
 
-Status: 0; 1 where no check of a crate kept anything; 2 for a word that it doesn't take. --help
-prints this."""
+Status: 0; 1 if no check of a crate kept anything; 2 for a wrong word."""
 import os
 import re
 import sys
@@ -52,7 +51,7 @@ def dearest(crate):
 
 def main():
     words = Words(__doc__)
-    words.add_argument("crates", nargs="+", metavar="CRATE", type=commands.crate)
+    words.add_argument("crates", nargs="+", metavar="CRATE", type=commands.crate, help="a crate")
     lacking = 0
     for crate in words.parse_args().crates:
         found = dearest(crate)

@@ -1,22 +1,13 @@
-"""gate-costs whole [--beside COMMIT] [--keep | CRATE..]: runs the merge gate, all of it anew, and
-prints what it cost, crate by crate; with names, for these crates and those below. What this machine
-kept of earlier gates is passed over (rt ci --anew, in a kit that keeps anything), so the times are
-those of a clean clone on a new machine.
+"""Runs the whole merge gate again, and prints what it cost, crate by crate. What this machine kept
+of earlier gates isn't used (rt ci --anew, in a kit that keeps anything), so the times are those of
+a clean clone on a new machine.
 
 Times are processor minutes: of a crate's proof from nothing, of the proof with its tests, and of
 its edits. They are read four times a second from the processes that the gate starts, so the last
-quarter of a second of each is missing; the sum at the end is the system's own. What the gate
-itself says goes to out/gate.log, and its last line is repeated here.
+quarter of a second of each is missing; the sum at the end is the system's own. What the gate itself
+prints goes to out/gate.log, and its last line is repeated here.
 
-  --beside COMMIT  the gate of a clone of that commit runs beside it, with half of the processors,
-                   and this one with one more, so that they end at about the same time; the last
-                   line tells how many times as much this one took: on virtual machines only what
-                   runs at the same time can be compared
-  --keep           writes the table to tools/costs.txt, where it passed: by it bin/build says how
-                   long it will take, and docs/GATE_COSTS.md speaks of it
-
-Status: the gate's own; 2 for a word that it doesn't take; 127 where rt isn't there. --help prints
-this."""
+Status: that of the gate; 2 for a wrong word; 127 if there is no rt."""
 import os
 import subprocess
 import tempfile
@@ -151,11 +142,35 @@ def keep(told):
         file.write("\n".join(told) + "\n")
 
 
-def main():
+def options():
+    """The options of the command."""
     words = Words(__doc__)
-    words.add_argument("--beside", metavar="COMMIT")
-    words.add_argument("--keep", action="store_true")
-    words.add_argument("crates", nargs="*", metavar="CRATE", type=commands.crate)
+    words.add_argument(
+        "--beside",
+        metavar="COMMIT",
+        help="also runs the gate of a clone of this commit, with half of the processors; "
+        "this one has one more, so that they end at about the same time. The last line "
+        "says how many times as much this one took. (On virtual machines only runs at "
+        "the same time can be compared.)",
+    )
+    words.add_argument(
+        "--keep",
+        action="store_true",
+        help="writes the table to tools/costs.txt if the gate passed: bin/build computes "
+        "from it how long it will take, and docs/GATE_COSTS.md explains it",
+    )
+    words.add_argument(
+        "crates",
+        nargs="*",
+        metavar="CRATE",
+        type=commands.crate,
+        help="measures only this crate and those below it",
+    )
+    return words
+
+
+def main():
+    words = options()
     given = words.parse_args()
     if given.keep and given.crates:
         stop("it keeps the whole table alone", 2)

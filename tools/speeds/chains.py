@@ -1,20 +1,18 @@
-"""speed chains [--program FILE] [--folder DIR] [--times N]: how much sooner decisions are durable
-where batches are committed in chains, by how long a sync of the disk takes. It runs `lns-speed
-chains`, on a file in a folder (the current one), with syncs that take 0, 0.5, 1, 2 and 5 ms longer
-than they do, N times each (once), and prints the median of what it tells: decisions a second with
-each batch of 64 alone and with chains of 64 batches, how many times as many those are, and how many
-calls of the disk 64 batches take.
+"""Measures how much sooner decisions are durable if batches are committed in chains, for several
+durations of a sync of the disk. It runs `lns-speed chains` on a file, with syncs that take 0, 0.5,
+1, 2 and 5 ms longer than they do, and prints the median: decisions a second with each batch of 64
+alone and with chains of 64 batches, the quotient of these, and how many calls of the disk 64
+batches take.
 
-The aim is 1.6 times as many, by syncs as they are and by longer ones, and 256 calls alone and 193
-in a chain. The last line is 'N passed, M failed': a comparison with the aim each. With syncs as
-they are the figure varies from run to run where a sync takes no longer than the work beside it: so
-the least and the largest of the runs are told too, behind the median.
+The aim is 1.6 times as many, with syncs as they are and with longer ones, and 256 calls alone and
+193 in a chain. The last line is 'N passed, M failed': each is a comparison with the aim. With syncs
+as they are the figure varies from run to run if a sync takes no longer than the work beside it: so
+the least and the largest of the runs are printed too, after the median.
 
-The program is the proved lns-speed, which bin/build lns-speed makes, or FILE. A C compiler is
-needed, for what delays the syncs.
+It needs a C compiler, for what delays the syncs.
 
-Status: 0; 1 where the aim is missed, or nothing was measured, or there is no compiler; 2 for a word
-that it doesn't take, or where there is no program. --help prints this."""
+Status: 0; 1 if the aim is missed, nothing was measured, or there is no compiler; 2 for a wrong
+word, or if there is no program."""
 import os
 import re
 import statistics
@@ -68,9 +66,21 @@ def told(delay, runs, rates, calls):
 
 def main():
     words = Words(__doc__)
-    words.add_argument("--program", metavar="FILE")
-    words.add_argument("--folder", type=folder, default=".", metavar="DIR")
-    words.add_argument("--times", type=between(1, 100), default=1, metavar="N")
+    words.add_argument(
+        "--program",
+        metavar="FILE",
+        help="the program (the proved lns-speed, which bin/build lns-speed makes)",
+    )
+    words.add_argument(
+        "--folder",
+        type=folder,
+        default=".",
+        metavar="DIR",
+        help="the folder of the file (the current one)",
+    )
+    words.add_argument(
+        "--times", type=between(1, 100), default=1, metavar="N", help="how often each is run (1)"
+    )
     given = words.parse_args()
     program = commands.program_of(given.program, "lns_speed")
     passed, failed = 0, 0

@@ -1,25 +1,21 @@
-"""speed databases [--program FILE] [--folder DIR] [--out FILE] [--seconds N]: how many requests a
-second lnsd makes durable, beside how many rows PostgreSQL does: with 1, 4, 16 and 64 requests that
-wait for their answers, and 900 on one link.
+"""Measures how many requests a second lnsd makes durable, beside how many rows PostgreSQL does:
+with 1, 4, 16 and 64 requests that wait for their answers, and 900 on one link.
 
-Each client is a process of its own, in Python, which asks over TCP on the loopback; one loop for
+Each client is a process of its own, in Python, which asks over TCP on the loopback. One loop for
 both servers sends bytes that were made before, and takes answers of one length. lnsd (`run`) is
 asked to queue an item of 12 bytes, PostgreSQL by a prepared INSERT of a row of ten columns, each a
-transaction of its own with a sync, also where many are on their way on one connection; both answer
-what is durable. A client waits for each answer, but where lnsd has no more than 16 applications: 64
-requests are then four each of 16 clients, and PostgreSQL is asked so and by 64 clients. Rounds of a
-second, 4 or N, alternate between both.
+transaction of its own with a sync, also if many are on their way on one connection. Both answer
+what is durable. Each client waits for each answer, with one exception: lnsd has no more than 16
+applications, so 64 requests are then four each of 16 clients, and PostgreSQL is asked so and by 64
+clients. Rounds of a second alternate between both.
 
-PostgreSQL keeps the settings that it comes with. SQLite has one client, in the process that asks,
-in WAL mode with synchronous=FULL. All of them are on the file system of a folder (the repository).
-A line tells each figure, with the processor time of a request in the server (all its processes).
---out FILE has all of it as JSON, beside what other measurements put there. The last line is
-'N passed, M failed': what was measured, and what wasn't.
+PostgreSQL keeps its default settings. SQLite has one client, in the process that asks, in WAL mode
+with synchronous=FULL. A line prints each figure, with the processor time of a request in the server
+(all its processes). The last line is 'N passed, M failed': what was measured, and what wasn't.
 
 It installs nothing. PostgreSQL is Debian's package postgresql; SQLite is that of Python.
 
-Status: 0; 1 where one of them isn't here or failed; 2 for a word that it doesn't take, or where
-there is no program. --help prints this."""
+Status: 0; 1 if one of them isn't here or failed; 2 for a wrong word, or if there is no program."""
 import time
 from array import array
 

@@ -1,13 +1,10 @@
-"""speed page [--page FILE] RESULTS [PNG]: puts what tools/speed server, run and databases measured
-(--out) into a page, as docs/SPEED.md has it, each between two lines that say so: all that RESULTS
-has. Where a PNG is named it draws what speed server measured: how long uplinks take beyond their
-window, beside two syncs of the same disk.
+"""Puts what tools/speed server, run and databases measured (--out) into a page, for example
+docs/SPEED.md, each between two lines that mark the place.
 
-It draws by matplotlib (Debian: python3-matplotlib), or else by gnuplot (Debian: gnuplot-nox), and
-installs neither.
+It draws with matplotlib (Debian: python3-matplotlib), or else with gnuplot (Debian: gnuplot-nox),
+and installs neither.
 
-Status: 0; 1 where the results aren't such ones, or there is nothing to draw by; 2 for a word that
-it doesn't take. --help prints this."""
+Status: 0; 1 if the results can't be used, or nothing is there to draw with; 2 for a wrong word."""
 import os
 import shutil
 import subprocess
@@ -77,9 +74,15 @@ def by_gnuplot(found, png):
 
 def main():
     words = Words(__doc__)
-    words.add_argument("--page", metavar="FILE")
-    words.add_argument("results", metavar="RESULTS")
-    words.add_argument("png", nargs="?", metavar="PNG")
+    words.add_argument("--page", metavar="FILE", help="the page")
+    words.add_argument("results", metavar="RESULTS", help="the figures that were measured")
+    words.add_argument(
+        "png",
+        nargs="?",
+        metavar="PNG",
+        help="also draws this picture of what speed server measured: how long uplinks take "
+        "beyond their window, beside two syncs of the same disk",
+    )
     given = words.parse_args()
     try:
         with open(given.results, encoding="utf-8") as file:

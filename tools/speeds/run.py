@@ -1,28 +1,19 @@
-"""speed run [--program FILE] [--folder DIR] [--out FILE] [--rate N] [--seconds N] [--turns N]
-[--jobs N]: what it costs that links come and go, of `lnsd run` beside `lnsd serve`, with 4,096
-devices.
+"""Measures what it costs that links come and go: `lnsd run` beside `lnsd serve`, with 4,096
+devices:
 
-- both by turns, 4 each, with one load: 4,000 uplinks a second for 10 s, of 8 gateways, to 4
-  applications, each turn on a store of its own. How long they take beyond their window of 200 ms,
-  and processor time an uplink: those of `run` are to be within 10 % of those of `serve`;
-- what an uplink's time goes to: by threads, in the program and in the kernel; how often a thread
-  is taken off its processor; commits; and, in a turn more, by strace, the system calls;
-- 80 links that say nothing, of all the names that there may be, and 16 places that wait: how often
-  a thread wakes in 10 s;
-- 10,000 links that come anew, ended, reset and taken over: memory, descriptors and threads.
+- both by turns, with one load: 4,000 uplinks a second for 10 s, of 8 gateways, to 4 applications,
+  each turn on a store of its own. It measures how long they take beyond their window of 200 ms, and
+  the processor time of an uplink: that of `run` has to be within 10 % of that of `serve`;
+- what an uplink's time goes to: by threads, in the program and in the kernel; how often a thread is
+  taken off its processor; commits; and, in one more turn, by strace, the system calls;
+- 80 links that say nothing, of all possible names, and 16 places that wait: how often a thread
+  wakes in 10 s;
+- 10,000 new links, ended, reset and taken over: memory, descriptors and threads.
 
-A line tells each figure, with what was aimed at; the last line is 'N passed, M failed', of the
-aims. --out FILE has all of it as JSON, beside what other measurements put there.
+A line prints each figure, with its aim. The last line is 'N passed, M failed', of the aims.
 
---program FILE  the program; crates/lnsd/out/lnsd otherwise
---folder DIR    where stores lie, for the time of the run (the repository)
---rate N        uplinks a second (4000)
---seconds N     how long a turn lasts (10)
---turns N       how many turns each has (4)
---jobs N        processes that make the frames beforehand (all processors)
-
-Status: 0; 1 where an aim was missed or the run failed; 2 for a word that it doesn't take, or where
-there is no program. --help prints this."""
+Status: 0; 1 if an aim was missed or the run failed; 2 for a wrong word, or if there is no
+program."""
 import time
 from array import array
 from collections import Counter

@@ -72,15 +72,32 @@ def found_in(out):
     return found
 
 
+# the numbers that a measurement may take
+NUMBERS = {
+    "rate": "uplinks a second of the large load",
+    "seconds": "how long a load lasts; of databases: how many rounds of a second there are",
+    "turns": "how many turns each has",
+    "jobs": "how many processes make the frames beforehand",
+}
+
+
 def words_of(text, **numbers):
     """The words of a measurement: the program, a folder, --out, and numbers, each with its least,
-    its most and what it is otherwise."""
-    it = ProgramWords(text)
-    it.add_argument("--folder", type=folder, metavar="DIR", default=ROOT)
-    it.add_argument("--out", metavar="FILE")
+    its most and its default."""
+    words = ProgramWords(text)
+    words.add_argument(
+        "--folder",
+        type=folder,
+        metavar="DIR",
+        default=ROOT,
+        help="where stores are while it runs (the repository)",
+    )
+    more = "adds the figures to this JSON file, from which tools/speed page draws"
+    words.add_argument("--out", metavar="FILE", help=more)
     for name, (least, most, default) in numbers.items():
-        it.add_argument(f"--{name}", type=between(least, most), default=default, metavar="N")
-    return it
+        how = {"type": between(least, most), "default": default, "metavar": "N"}
+        words.add_argument(f"--{name}", help=f"{NUMBERS[name]} ({default})", **how)
+    return words
 
 
 def rates(seconds):

@@ -1,26 +1,17 @@
-"""speed server [--program FILE] [--folder DIR] [--out FILE] [--rate N] [--seconds N] [--jobs N]:
-how fast `lnsd serve` is, on the loopback of this machine and a real file with real syncs, with
-4,096 devices, 8 gateways and 4 applications.
+"""Measures how fast `lnsd serve` is, on the loopback of this machine and a real file with real
+syncs, with 4,096 devices, 8 gateways and 4 applications:
 
 - latency: from a frame's last copy to its line, beyond the window of 200 ms, at 100 uplinks a
   second for 10 s, and at 4,000 a second for 20 s, of which none may be lost;
-- processor time an uplink; memory; what it does while nothing comes, in 10 s;
+- processor time of an uplink; memory; what it does in 10 s while nothing comes;
 - starting on a store of 4,096 devices whose records are full, and memory with these; and on one of
-  version 1, which is taken over;
+  version 1, which is migrated;
 - beside it, the syncs of the same file system.
 
-A line tells each figure, with what was aimed at; the last line is 'N passed, M failed', of the
-aims. --out FILE has all of it as JSON, beside what other measurements put there; tools/speed page
-draws it.
+A line prints each figure, with its aim. The last line is 'N passed, M failed', of the aims.
 
---program FILE  the program; crates/lnsd/out/lnsd otherwise
---folder DIR    where stores lie, for the time of the run (the repository)
---rate N        uplinks a second of the large load (4000)
---seconds N     how long that load lasts (20)
---jobs N        processes that make the frames beforehand (all processors)
-
-Status: 0; 1 where an aim was missed or the run failed; 2 for a word that it doesn't take, or where
-there is no program. --help prints this."""
+Status: 0; 1 if an aim was missed or the run failed; 2 for a wrong word, or if there is no
+program."""
 import os
 import shutil
 import time
