@@ -47,12 +47,14 @@ def meters() -> int:
 
 
 @pytest.fixture
-def whole(pilot: Pilot, meters: int) -> Whole:
+def whole(pilot: Pilot, meters: int) -> Iterator[Whole]:
     """A whole pilot, whose meters have joined."""
     made = Whole(pilot, meters)
     made.link()
     assert made.join(), "all meters join"
-    return made
+    yield made
+    for forwarder in made.air.gateways:
+        forwarder.close()
 
 
 @pytest.fixture

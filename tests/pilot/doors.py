@@ -55,6 +55,7 @@ class Certificates:
             ("gateway", *GATEWAYS[:2]),
             ("gateway", OTHERS),
             ("application", str(APPLICATION)),
+            ("application", f"1{APPLICATION}"),
             ("bridge", "gateways"),
             ("bridge", f"application-{APPLICATION}"),
         ):

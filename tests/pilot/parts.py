@@ -1,13 +1,26 @@
 """The parts of a pilot, as processes in a folder of their own: the server, a broker, bridges."""
 
 import os
+from importlib.machinery import SourceFileLoader
+from importlib.util import module_from_spec, spec_from_loader
 from pathlib import Path
+from types import ModuleType
 from typing import Any
 
 from bozintar.processes import HOST, Failed, Process, Processes, command, free_port
 from bozintar.server import Program
 
 PILOT = Path(__file__).resolve().parents[2] / "pilot"
+
+
+def program_of_pilot(name: str) -> ModuleType:
+    """A program of pilot/ as a module: what is tried of it without a process."""
+    loader = SourceFileLoader(name.replace("/", "_").replace("-", "_"), str(PILOT / name))
+    spec = spec_from_loader(loader.name, loader)
+    assert spec
+    module = module_from_spec(spec)
+    loader.exec_module(module)
+    return module
 
 
 class Parts(Processes):

@@ -30,7 +30,8 @@ class Station(Client):
         self.told: list[dict] = []
         self.commands: deque[Any] = deque()
         self.next_stats = 0.0
-        self.socket, self.bell = socket.socketpair()
+        self.heard, self.bell = socket.socketpair()
+        self.sockets = [self.heard]
         self.client = client(f"station-{self.eui}")
         self.client.on_message = self.note
         topic = f"{prefix}/gateway/{self.eui}/command/#"
@@ -82,9 +83,9 @@ class Station(Client):
             self.publish("stats", {"gatewayId": self.eui, "rxPacketsReceived": 1})
             self.next_stats = time.monotonic() + STATS_EVERY
 
-    def read(self) -> bytes | None:
+    def read(self, heard: socket.socket) -> bytes | None:
         """Reads a command; a frame that it sends then."""
-        self.socket.recv(1)
+        heard.recv(1)
         body = json.loads(self.commands.popleft().payload)
         statuses: list[dict] = []
         frame = None

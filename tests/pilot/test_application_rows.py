@@ -7,6 +7,7 @@ import pytest
 from bozintar.fields import Wrong
 from bridges import devices
 from bridges.application_events import Item, Translator, refusal, status
+from bridges.names import Names
 
 from .rows import outcome, table
 
@@ -144,6 +145,29 @@ def test_event_up(more):
     assert (event.kind, event.body) == ("up", UP)
     assert again.body["deduplicationId"] == identifier
     assert event.topic(3) == f"application/3/device/{DEVICE}/event/up"
+
+
+# a reading, and others: of another device, session or counter
+MARKS = (f"{DEVICE} 5 10", f"{DEVICE[:-1]}2 5 10", f"{DEVICE} 6 10", f"{DEVICE} 5 11")
+
+
+def test_identifiers_of_readings():
+    """Each reading has an identifier of its own."""
+    lines = [f"up {mark} 1 AA 2 0016C001F153A14C 867100000 1 42 -36" for mark in MARKS]
+    events = [Translator(3, {}).event(line, TIME) for line in lines]
+    assert len({event.body["deduplicationId"] for event in events}) == len(MARKS)
+
+
+# an id, and whether it is a tag
+IDS = (("7", True), ("0", True), ("007", False), ("x", False), ("", False), ("1000000000", False))
+IDS += (("999999999", True), ("\u0667", False), ("-7", False))
+
+
+@table("text, is_tag", IDS)
+def test_tag_of_an_id(text: str, is_tag: bool):
+    """An id that is a number is the tag, as it is; a tag of another one is above all of these."""
+    tag = Names().add(DEVICE, text)
+    assert (tag == int(text)) if is_tag else (tag >= 10**9)
 
 
 @pytest.mark.parametrize("more", ("", f" {LATER}"), ids=("today", "later"))

@@ -10,13 +10,15 @@ from collections.abc import Iterator
 
 import pytest
 from bozintar.forwarders import Air, Forwarder
-from bozintar.processes import HOST, await_that
+from bozintar.processes import HOST, Process, await_that
 
 from .field import GATEWAYS, counts_in
 from .networks import End, Network
 from .parts import PILOT, Parts
 from .played import EUI, FIRST, SECOND, SLOW, Bridge, gateways, nobody_reads, rxpk, up
 
+# downlinks at a time: more than four bits can number
+MANY = 40
 # as many wake-ups as a busy loop of events may find waiting, and then a signal
 BUSY = """import asyncio, os, signal, sys, time
 from bozintar.running import until_told
@@ -92,6 +94,27 @@ def test_unanswered_item(bridge: Bridge):
     for kind in ("queued", "ack"):
         assert bridge.events(kind)[-1]["queueItemId"] == "z", f"whose {kind} it is"
     assert bridge.queued(FIRST, "z") != tag, "it is asked for again"
+
+
+def test_answer_for_another_item(bridge: Bridge):
+    """An answer of an earlier link, which comes first, isn't the answer for an item."""
+    bridge.dashboard.down(FIRST, fPort=7, data="AA==", id="x")
+    assert bridge.link.asked()[:2] == ["queue", FIRST]
+    bridge.link.tell(f"queued {FIRST} 77", "refused 12")
+    log = bridge.events("log")[-1]
+    assert (log["code"], log["context"]["queue_item_id"]) == ("QUEUE_FULL", "x")
+    assert [body["queueItemId"] for body in bridge.events("queued")] == ["77"]
+
+
+def test_command_while_away(bridge: Bridge):
+    """The broker keeps commands that come while the bridge is away."""
+    bridge.part.send_signal(signal.SIGTERM)
+    bridge.link.hears()
+    bridge.link.close()
+    assert bridge.part.ended() == 0
+    bridge.dashboard.down(FIRST, fPort=7, data="AA==", id="41")
+    bridge.link = bridge.start()
+    assert bridge.link.asked()[:3] == ["queue", FIRST, "41"]
 
 
 def ends_well(bridge: Bridge, *lines: str) -> None:
@@ -171,10 +194,24 @@ def test_busy_loop():
 
 
 @pytest.fixture
-def forwarder(parts: Parts, network: Network) -> Forwarder:
-    """A gateway that comes by the bridge of gateways by UDP."""
-    gateways(parts, network.at, "--gateway", GATEWAYS[0], ready="listens on")
-    return Forwarder(GATEWAYS[0], parts.udp_port)
+def more_words() -> tuple[str, ...]:
+    """More options of the gateways' bridge."""
+    return ()
+
+
+@pytest.fixture
+def part(parts: Parts, network: Network, more_words: tuple[str, ...]) -> Process:
+    """The bridge of gateways by UDP."""
+    words = ("--gateway", GATEWAYS[0], "--counts", parts.file("gateways.prom"), *more_words)
+    return gateways(parts, network.at, *words, ready="listens on")
+
+
+@pytest.fixture
+def forwarder(parts: Parts, part: Process) -> Iterator[Forwarder]:
+    """A gateway that comes by it."""
+    made = Forwarder(GATEWAYS[0], parts.udp_port)
+    yield made
+    made.close()
 
 
 @pytest.fixture
@@ -186,6 +223,13 @@ def link(forwarder: Forwarder, network: Network) -> Iterator[End]:
     made.close()
 
 
+def counted(parts: Parts, part: Process, *names: str) -> list[int]:
+    """What the bridge counted until its end."""
+    assert part.end() == 0
+    counts = counts_in(parts.file("gateways.prom"))
+    return [counts[f"gateways_udp_{name}"] for name in names]
+
+
 def test_frames_of_one_datagram(forwarder: Forwarder, link: End):
     """Frames of one datagram are handed in as they came, and one of two channels once."""
     assert link.greeting == b"\x00" + EUI
@@ -194,6 +238,12 @@ def test_frames_of_one_datagram(forwarder: Forwarder, link: End):
     contents = [link.hears() or b"" for _ in range(3)]
     came = [(int.from_bytes(one[14:16], "big"), one[22:]) for one in contents]
     assert came == [(4, b"older"), (36, b"newer"), (8, b"x")]
+
+
+def downlink_after(link: End, payload: bytes = bytes(12)) -> bytes:
+    """A downlink after the frame that comes on a link."""
+    stamp = (link.hears() or b"")[18:22]
+    return b"\x11" + EUI + stamp + bytes.fromhex("33BE27A0 05 05 06") + payload
 
 
 WINDOWS = {
@@ -208,19 +258,76 @@ WINDOWS = {
 }
 
 
+@pytest.mark.parametrize("more_words", [("--power", "14", "--rx2-power", "27")])
 def test_second_window(forwarder: Forwarder, link: End):
     """If RX1 can't be sent in, RX2 is tried: it's later, on another frequency, with a power of its
     own. A moment that is too far away isn't nearer in RX2."""
-    payload, air = bytes(12), Air([forwarder], [])
+    air = Air([forwarder], [])
     for error, windows in WINDOWS.items():
-        forwarder.hears(payload)
-        stamp = (link.hears() or b"")[18:22]
+        forwarder.hears(bytes(12))
         forwarder.told.clear()
         forwarder.errors.append(error)
-        link.say(b"\x11" + EUI + stamp + bytes.fromhex("33BE27A0 05 05 06") + payload)
+        link.say(downlink_after(link))
         air.go_on(5, lambda due=windows: len(forwarder.told) == due)
         air.go_on(0.15)
-        assert len(forwarder.told) == windows, f"windows after {error}"
+        powers = [told["powe"] for told in forwarder.told]
+        assert powers == [14, 27][:windows], f"windows after {error}"
+
+
+def test_second_window_is_the_last(forwarder: Forwarder, link: End, parts: Parts, part: Process):
+    """A downlink that can't be sent in RX2 either isn't tried again."""
+    forwarder.hears(bytes(12))
+    forwarder.errors.extend(["TOO_LATE"] * 10)
+    link.say(downlink_after(link))
+    Air([forwarder], []).go_on(0.5)
+    assert len(forwarder.told) == 2
+    assert counted(parts, part, "in_rx2", "not_sent", "sent") == [1, 1, 0]
+
+
+def test_many_downlinks_at_once(forwarder: Forwarder, link: End):
+    """Each downlink has a token of its own, so that each answer is of one."""
+    tokens = set()
+    for _ in range(MANY):
+        forwarder.hears(bytes(12))
+        link.say(downlink_after(link))
+    forwarder.down.settimeout(10)
+    while len(tokens) < MANY:
+        data = forwarder.down.recv(65536)
+        if data[3] == 3:
+            assert data[1:3] not in tokens, "a token that waits for its answer"
+            tokens.add(data[1:3])
+
+
+def test_downlink_of_another_clock(forwarder: Forwarder, link: End, parts: Parts, part: Process):
+    """A downlink whose gateway has begun its clock anew is sent at no moment of the new one."""
+    forwarder.hears(bytes(12))
+    downlink = downlink_after(link)
+    forwarder.restart(begins=2_000_000_000)
+    forwarder.look()
+    forwarder.hears(bytes(12))
+    link.hears()
+    link.say(downlink)
+    Air([forwarder], []).go_on(0.5)
+    assert forwarder.told == []
+    assert counted(parts, part, "clocks_begun_anew", "out_of_time") == [1, 1]
+
+
+@pytest.mark.parametrize("more_words", [("--silent", "1")])
+def test_silent_gateway(
+    forwarder: Forwarder, link: End, network: Network, parts: Parts, part: Process
+):
+    """The address of a gateway that is silent isn't used any more: once it hears a frame, it has to
+    ask for downlinks first."""
+    await_that("it is silent", lambda: "is silent" in part.said())
+    assert link.hears() is None
+    forwarder.hears(bytes(12))
+    later = network.link()
+    later.say(downlink_after(later))
+    air = Air([forwarder], [])
+    forwarder.next_pull = time.monotonic() + 60
+    air.go_on(0.5)
+    assert forwarder.told == []
+    assert counted(parts, part, "not_pulled") == [1]
 
 
 def next_link(network: Network, forwarder: Forwarder, seconds: float = 20.0) -> End:

@@ -1,10 +1,14 @@
 """The doors: strangers reach neither the server nor the broker, and nobody is another one."""
 
 import json
+import os
 import socket
 import sqlite3
+import subprocess
+import sys
 import time
 from collections.abc import Iterator
+from pathlib import Path
 from typing import Any
 
 import pytest
@@ -26,11 +30,13 @@ from .doors import (
     refused_by_broker,
 )
 from .field import APPLICATION, GATEWAYS
-from .parts import Pilot
+from .parts import PILOT, Pilot, program_of_pilot
 from .rows import table
 from .whole import Dashboard
 
 PLACE = GATEWAYS[0].lower()
+# how long a client may take to greet, and how long one takes for a byte here, in seconds
+PATIENCE, PACE = 10.0, 1.6
 REFUSED = wire.framed(b"\x13refused 51")
 # a client; the authority of its certificate, and the certificate; what it says; what comes, which
 # is None if it isn't let in; and how many lines the door logs, which isn't asked if stunnel refuses
@@ -45,6 +51,15 @@ AT_THE_DOOR = (
     ("another one's EUI", "own", PLACE, gateway(OTHERS), None, 1),
     ("an application's number", "own", PLACE, application(3), None, 1),
     ("another application's", "own", "application-3", application(4), None, 1),
+    (
+        "an application that its number begins with",
+        "own",
+        "application-13",
+        application(1),
+        None,
+        1,
+    ),
+    ("an application that its number ends with", "own", "application-13", application(3), None, 1),
     ("a gateway's EUI", "own", "application-3", gateway(GATEWAYS[0]), None, 1),
     ("no greeting", "own", PLACE, wire.framed(b"\x01" + bytes(40)), None, 1),
     ("no frame", "own", PLACE, b"\xff" * 100, None, 1),
@@ -56,6 +71,48 @@ AT_THE_BROKER = (
     ("another authority's", "other", PLACE, True),
     ("an expired one", "late", PLACE, True),
 )
+
+
+# a certificate's subject as stunnel says it, and the names in it
+SUBJECTS = (
+    ("CN=0016c001f153a14c", {"0016c001f153a14c"}),
+    ("CN=0016c001f153a14c, OU=0016c001f153a14d", {"0016c001f153a14c", "0016c001f153a14d"}),
+    ("/O=Bozintar/CN=application-3", {"application-3"}),
+    ("CN = application-3+OU = application-4", {"application-3", "application-4"}),
+    ("CN=application-3_x", set()),
+    ("CN=application-3 x", set()),
+    ("CN=application-3.x", set()),
+    ("O=CN=application-3", set()),
+    ("SCN=application-3", set()),
+)
+
+
+@table("subject, names", SUBJECTS)
+def test_names_of_a_certificate(subject: str, names: set[str]):
+    """The names in a certificate are whole ones."""
+    assert program_of_pilot("secure/door").names_of(subject) == names
+
+
+@pytest.mark.timed
+def test_slow_greeting(tmp_path: Path):
+    """A client that says a byte of its greeting now and then is closed ten seconds after its first
+    one, and nothing of it is passed on."""
+    ours, theirs = socket.socketpair()
+    words = [sys.executable, PILOT / "secure/door", f"{HOST}:1", "--log", tmp_path / "log"]
+    environment = {**os.environ, "SSL_CLIENT_DN": f"CN={PLACE}"}
+    with ours, subprocess.Popen(words, stdin=theirs, env=environment) as door:
+        theirs.close()
+        begun = time.monotonic()
+        for byte in gateway(GATEWAYS[0])[:-1]:
+            try:
+                ours.send(bytes([byte]))
+                door.wait(PACE)
+                break
+            except subprocess.TimeoutExpired:
+                pass
+        assert door.wait(PATIENCE) == 1
+    assert time.monotonic() - begun < PATIENCE + PACE
+    assert "it doesn't greet" in (tmp_path / "log").read_text(encoding="utf-8")
 
 
 @pytest.fixture(scope="module")

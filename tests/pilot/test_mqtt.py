@@ -5,6 +5,7 @@ import json
 import signal
 import subprocess
 import sys
+from collections.abc import Iterable, Iterator
 
 import pytest
 from bozintar.meters import Meter, Reading
@@ -168,27 +169,85 @@ def test_devices_again(whole: Whole):
     assert told[-1].endswith("5 devices are there, 1 aren't")
 
 
-def highest_of(database: str) -> tuple[int, str, str]:
-    """What readings --join-nonces prints."""
-    words = [sys.executable, PILOT / "readings", "--db", database, "--join-nonces"]
-    ended = subprocess.run(words, capture_output=True, text=True, check=False)
+def printed_by_readings(*words: str) -> tuple[int, str, str]:
+    """How readings ends, and what it prints."""
+    program = [sys.executable, PILOT / "readings", *words]
+    ended = subprocess.run(program, capture_output=True, text=True, check=False)
     return ended.returncode, ended.stdout, ended.stderr
 
 
-def test_join_nonces(parts: Parts):
-    """The highest JoinNonce of each device that is stored, also while readings are stored."""
-    parts.broker().start("running")
-    database, at = parts.file("readings.db"), f"{HOST}:{parts.broker_port}"
-    words = ("--db", database, "--broker", at, "--application", APPLICATION)
-    readings = parts.own("readings", *words).start("connected")
-    assert highest_of(database) == (0, f"{HEAD}\n", ""), "before a reading"
-    with Dashboard(parts.broker_port) as dashboard:
-        for device, session, counter in SESSIONS:
+class Stored:
+    """Readings that are stored, of events that come on a broker."""
+
+    def __init__(self, parts: Parts):
+        parts.broker().start("running")
+        self.database, at = parts.file("readings.db"), f"{HOST}:{parts.broker_port}"
+        words = ("--db", self.database, "--broker", at, "--application", APPLICATION)
+        self.part = parts.own("readings", *words).start("connected")
+        self.dashboard = Dashboard(parts.broker_port)
+
+    def say(self, readings: Iterable[tuple[str, int, int]]) -> None:
+        """Events of readings: the device, JoinNonce, counter."""
+        for device, session, counter in readings:
             body = {"time": "now", "deviceInfo": {"devEui": device}, "joinNonce": session}
             body |= {"fCnt": counter, "fPort": 7, "data": "AA=="}
             topic = f"application/{APPLICATION}/device/{device}/event/up"
-            dashboard.say(topic, json.dumps(body).encode())
-        due = (0, "\n".join([HEAD, *HIGHEST]) + "\n", "")
-        await_that("all are stored", lambda: highest_of(database) == due)
-    assert readings.end() == 0, "the end of readings"
-    assert highest_of(database) == due, "of a database that nobody has open"
+            self.dashboard.say(topic, json.dumps(body).encode())
+
+    def prints(self, option: str) -> tuple[int, str, str]:
+        """What it prints of its database."""
+        return printed_by_readings("--db", self.database, option)
+
+
+@pytest.fixture
+def stored(parts: Parts) -> Iterator[Stored]:
+    """A program that stores readings."""
+    made = Stored(parts)
+    with made.dashboard:
+        yield made
+
+
+def test_join_nonces(stored: Stored):
+    """The highest JoinNonce of each device that is stored, also while readings are stored."""
+    assert stored.prints("--join-nonces") == (0, f"{HEAD}\n", ""), "before a reading"
+    stored.say(SESSIONS)
+    due = (0, "\n".join([HEAD, *HIGHEST]) + "\n", "")
+    await_that("all are stored", lambda: stored.prints("--join-nonces") == due)
+    assert stored.part.end() == 0
+    assert stored.prints("--join-nonces") == due, "of a database that nobody has open"
+
+
+# readings: the device, JoinNonce, counters; and what is printed of them
+COUNTERS = (
+    ("70b3d57ed0000001", 1, (0, 1, 2)),
+    # a later session begins again
+    ("70b3d57ed0000001", 2, (0, 1)),
+    # three at the front are missing, and one in the middle
+    ("70b3d57ed0000002", 7, (3, 5)),
+    ("70b3d57ed0000003", 1, (0,)),
+)
+REPORT = (
+    "70B3D57ED0000001 stored 5 missing 0",
+    "70B3D57ED0000002 stored 2 missing 4",
+    "70B3D57ED0000003 stored 1 missing 0",
+    "readings 8 missing 4",
+)
+
+
+def test_report(stored: Stored):
+    """How many readings are stored of each device, and how many counters are missing, of each
+    session from 0 on."""
+    marks = [(dev, session, each) for dev, session, counters in COUNTERS for each in counters]
+    stored.say(marks)
+    due = (0, "\n".join(REPORT) + "\n", "")
+    await_that("all are stored", lambda: stored.prints("--report")[1].count("stored") == 3)
+    await_that("the last one", lambda: REPORT[2] in stored.prints("--report")[1])
+    assert stored.prints("--report") == due
+
+
+def test_readings_while_away(stored: Stored):
+    """The broker keeps readings while the program that stores them is away."""
+    assert stored.part.end() == 0
+    stored.say(SESSIONS[:1])
+    stored.part.start("connected")
+    await_that("it is stored", lambda: ",9" in stored.prints("--join-nonces")[1])

@@ -1,6 +1,7 @@
 """Rows of what is translated between packet forwarders and the network, each value by Semtech's
 PROTOCOL.TXT and by docs/FORMATS.md."""
 
+import pytest
 from bozintar import oracle, wire
 from bozintar.fields import Wrong
 from bozintar.lasting import Link
@@ -165,6 +166,28 @@ def told(content: bytes):
         for window in (downlink.rx1, downlink.rx2)
     ]
     return [window and (window["tmst"], window["freq"], window["datr"]) for window in txpk]
+
+
+# a window's delay in seconds after a stamp of 0 that came at 1000.0 s, when it is looked at, and
+# whether it is still to come; ten seconds of slack are on both sides
+DUE = (
+    (1, 1000.2, True),
+    (1, 1010.9, True),
+    (1, 1011.1, False),
+    (5, 1000.0, True),
+    (5, 989.9, False),
+    (15, 1024.9, True),
+    (15, 1025.1, False),
+)
+
+
+@pytest.mark.parametrize("delay, moment, is_due", DUE)
+def test_window_is_due(delay, moment, is_due):
+    """Whether a window is still to come."""
+    clock = clocks.Clock()
+    assert not clock.is_due(0, delay, moment), "of a clock of which nothing came"
+    clock.hear(0, 1000.0)
+    assert clock.is_due(0, delay, moment) == is_due
 
 
 class Slow:
