@@ -48,6 +48,11 @@ class Forwarder:
         """Its sockets."""
         return [self.up, self.down] if self.up else []
 
+    @property
+    def name(self) -> str:
+        """Its EUI."""
+        return self.eui.hex().upper()
+
     def close(self) -> None:
         """Closes its sockets."""
         for own in self.sockets:
@@ -130,8 +135,8 @@ class Forwarder:
 
 
 class Air:
-    """What gateways and meters have between them. A gateway has `sockets`, `look`, `read` and
-    `hears`."""
+    """What gateways and meters have between them. A gateway has `name`, `sockets`, `look`, `read`
+    and `hears`."""
 
     def __init__(self, gateways: Iterable[Any], meters: Iterable[Meter]):
         self.gateways, self.meters = list(gateways), list(meters)
@@ -150,10 +155,10 @@ class Air:
             for ready in select.select(list(whose), [], [], min(left, 0.05))[0]:
                 frame = whose[ready].read(ready)
                 if frame:
-                    self.carry(frame)
+                    self.carry(frame, whose[ready].name)
         return True
 
-    def carry(self, frame: bytes) -> None:
+    def carry(self, frame: bytes, gateway: str) -> None:
         """A frame that a gateway sends, which one meter hears."""
-        if not any(meter.takes(frame) for meter in self.meters):
+        if not any(meter.takes(frame, gateway) for meter in self.meters):
             self.unheard += 1

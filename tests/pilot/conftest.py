@@ -42,7 +42,7 @@ def network() -> Iterator[Network]:
 
 @pytest.fixture
 def meters() -> int:
-    """How many meters a field has; `@pytest.mark.parametrize("meters", [N])` says another number."""
+    """How many meters a field has; `parametrize("meters", [N])` says another number."""
     return 6
 
 

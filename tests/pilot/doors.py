@@ -4,14 +4,12 @@ import os
 import shutil
 import socket
 import ssl
-import subprocess
-import sys
 
 from bozintar import wire
 from bozintar.processes import HOST, Failed, command, free_port, read
 
 from .field import APPLICATION, GATEWAYS
-from .parts import PILOT, Pilot
+from .parts import PILOT, Pilot, run
 from .stations import Station
 
 TLS, BROKER_TLS = "/etc/bozintar/tls", "/etc/mosquitto/certs"
@@ -21,17 +19,16 @@ OTHERS = "AA555A00000000B9"
 class Authority:
     """A folder of certificates."""
 
-    def __init__(self, folder: str):
+    def __init__(self, folder: str) -> None:
         self.folder = folder
         if not os.path.isdir(folder):
             self.make("authority")
 
     def make(self, *words: str) -> None:
         """Has a certificate made."""
-        program = [sys.executable, PILOT / "secure/certificates", self.folder, *words]
-        made = subprocess.run(program, capture_output=True, text=True, check=False)
-        if made.returncode:
-            raise Failed(f"certificates ended so: {made.stderr}")
+        status, _, said = run("secure/certificates", self.folder, *words)
+        if status:
+            raise Failed(f"certificates ended so: {said}")
 
     def of(self, name: str) -> tuple[str, str]:
         """A certificate and its key."""
@@ -48,7 +45,7 @@ class Authority:
 class Certificates:
     """Certificates of all kinds: of one's own authority, of another one, and one that is late."""
 
-    def __init__(self, folder: str):
+    def __init__(self, folder: str) -> None:
         self.own = Authority(f"{folder}/own")
         for words in (
             ("server", "localhost", HOST),
@@ -72,7 +69,7 @@ class Certificates:
 class Doors:
     """The server and a broker behind doors."""
 
-    def __init__(self, pilot: Pilot, certificates: Certificates):
+    def __init__(self, pilot: Pilot, certificates: Certificates) -> None:
         self.pilot, self.certificates = pilot, certificates
         self.own, self.other = certificates.own, certificates.other
         self.late = certificates.late
@@ -168,13 +165,13 @@ def ended(connection: socket.socket) -> bool:
 class Secured(Station):
     """A gateway whose gateway bridge has a certificate."""
 
-    def __init__(self, eui: str, port: int, authority: Authority, name: str):
-        self.authority, self.name = authority, name
+    def __init__(self, eui: str, port: int, authority: Authority, name: str) -> None:
+        self.authority, self.certificate = authority, name
         super().__init__(eui, port)
 
     def connect(self, port: int) -> None:
         """Connects with its certificate."""
-        files = (f"{self.authority.folder}/ca.crt", *self.authority.of(self.name))
+        files = (f"{self.authority.folder}/ca.crt", *self.authority.of(self.certificate))
         self.client.tls_set(*files)
         self.client.connect_async("localhost", port)
 

@@ -1,5 +1,6 @@
 """A field: meters, gateways that hear them, and the bridge that those gateways come by."""
 
+import time
 from typing import Any
 
 from bozintar.forwarders import Air, Forwarder
@@ -10,6 +11,8 @@ from .parts import Pilot
 
 GATEWAYS = ("00000000000000B1", "00000000000000B2", "AA555A00000000B3")
 APPLICATION = 3
+# how many meters join at a time, and how long one waits for its accept, in seconds
+AT_A_TIME, PATIENCE = 20, 8.0
 # forwarders' versions, and their clocks as they begin: one is about to wrap
 FORWARDERS = ((2, 90_000_000), (1, 2**32 - 3_000_000), (2, 77))
 
@@ -17,7 +20,7 @@ FORWARDERS = ((2, 90_000_000), (1, 2**32 - 3_000_000), (2, 77))
 class Field:
     """Meters and gateways of a pilot. By itself the gateways come by UDP."""
 
-    def __init__(self, pilot: Pilot, meters: int):
+    def __init__(self, pilot: Pilot, meters: int) -> None:
         self.pilot = pilot
         self.named = [word for eui in GATEWAYS for word in ("--gateway", eui)]
         self.named += ["--network", pilot.network, "--counts", pilot.file("gateways.prom")]
@@ -50,16 +53,19 @@ class Field:
         for place, gateway in enumerate(by or self.air.gateways):
             gateway.hears(frame, hz, data_rate, snr=8 - place, rssi=-70 - place)
 
-    def join(self, pause: float = 0.03, seconds: float = 40.0) -> bool:
-        """All meters join, those again that no accept came to."""
-        for tries in range(4):
-            for meter in (meter for meter in self.meters if not meter.keys):
+    def join(self, seconds: float = 120.0) -> bool:
+        """All meters join, some at a time, and again those that no accept came to."""
+        last, until = time.monotonic() + seconds, dict.fromkeys(self.meters, 0.0)
+        while out := [meter for meter in self.meters if not meter.keys]:
+            now = time.monotonic()
+            if now > last:
+                return False
+            asking = [meter for meter in out if until[meter] > now]
+            for meter in [meter for meter in out if until[meter] <= now][: AT_A_TIME - len(asking)]:
                 self.send(meter.join_request())
-                self.air.go_on(pause)
-            are_in = lambda: all(meter.keys for meter in self.meters)
-            if self.air.go_on(seconds / 2**tries, are_in):
-                return True
-        return False
+                until[meter] = now + PATIENCE
+            self.air.go_on(0.03)
+        return True
 
     def reading(self, meter: Meter, seconds: float = 10.0, **how: Any) -> bool:
         """A confirmed reading; whether it was acknowledged."""

@@ -1,6 +1,8 @@
 """The parts of a pilot, as processes in a folder of their own: the server, a broker, bridges."""
 
 import os
+import subprocess
+import sys
 from importlib.machinery import SourceFileLoader
 from importlib.util import module_from_spec, spec_from_loader
 from pathlib import Path
@@ -23,10 +25,17 @@ def program_of_pilot(name: str) -> ModuleType:
     return module
 
 
+def run(name: str, *words: Any, **how: Any) -> tuple[int, str, str]:
+    """Runs a program of pilot/ to its end; its status, and what it prints and complains."""
+    program = [sys.executable, str(PILOT / name), *map(str, words)]
+    ended = subprocess.run(program, capture_output=True, text=True, check=False, **how)
+    return ended.returncode, ended.stdout, ended.stderr
+
+
 class Parts(Processes):
     """Bridges and a broker."""
 
-    def __init__(self, folder: str = ""):
+    def __init__(self, folder: str = "") -> None:
         super().__init__("pilot-", folder)
         self.broker_port, self.udp_port = free_port(), free_port()
 
@@ -48,7 +57,7 @@ class Parts(Processes):
 class Pilot(Parts):
     """A server on an empty store, and what was started beside it."""
 
-    def __init__(self, path: str, slots: int = 256):
+    def __init__(self, path: str, slots: int = 256) -> None:
         self.program = Program(path)
         super().__init__(self.program.folder)
         made = self.program.format(slots=slots)

@@ -44,7 +44,7 @@ def up(counter: int, device: str = FIRST) -> str:
 class Bridge:
     """The bridge of an application, beside a network that is played, with a broker."""
 
-    def __init__(self, parts: Parts, network: Network, *words: Any, after: str = ""):
+    def __init__(self, parts: Parts, network: Network, *words: Any, after: str = "") -> None:
         self.broker = parts.broker().start("running")
         self.dashboard = Dashboard(parts.broker_port)
         self.file = parts.file("applications.prom")

@@ -21,8 +21,8 @@ STATS_EVERY = 1.0
 class Station(Client):
     """A gateway behind a gateway bridge of its own."""
 
-    def __init__(self, eui: str, port: int, prefix: str = "eu868"):
-        self.eui, self.prefix = eui.lower(), prefix
+    def __init__(self, eui: str, port: int, prefix: str = "eu868") -> None:
+        self.name, self.eui, self.prefix = eui, eui.lower(), prefix
         # what it wants to see again with a downlink
         self.contexts: set[str] = set()
         # what it answers instead of sending, in turn

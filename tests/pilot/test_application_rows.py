@@ -3,6 +3,8 @@ its format: ChirpStack's events and commands (version 4), docs/FORMATS.md."""
 
 import tempfile
 
+from typing import Any
+
 import pytest
 from bozintar.fields import Wrong
 from bridges import devices
@@ -27,8 +29,8 @@ UP = {
     "rxInfo": [{"gatewayId": "0016c001f153a14c", "rssi": -36, "snr": 10.5}],
     "txInfo": {"frequency": 867100000, "modulation": {"lora": LORA}},
 }
-ITEM = {"queueItemId": "5", "tag": 5}
-KNOWN = {"queueItemId": "3ac7e3c4", "tag": 9}
+ITEM: dict[str, Any] = {"queueItemId": "5", "tag": 5}
+KNOWN: dict[str, Any] = {"queueItemId": "3ac7e3c4", "tag": 9}
 SPENT = {
     "level": "ERROR",
     "code": "FRAME_COUNTERS_SPENT",
@@ -45,7 +47,7 @@ STATUS = {
 }
 
 # a line of an application, and the event: its kind, and what it says besides whose it is and when
-LINES = (
+LINES: tuple = (
     (f"acked {DEVICE} 5", ("ack", {**ITEM, "acknowledged": True})),
     (f"lost {DEVICE} 9", ("ack", {**KNOWN, "acknowledged": False})),
     (f"queued {DEVICE} 9", ("queued", KNOWN)),
@@ -65,7 +67,7 @@ STATUSES = (
 )
 
 # a command `down`, and the line that is asked
-COMMANDS = (
+COMMANDS: tuple = (
     ('{"devEui":"%s","confirmed":true,"fPort":10,"data":"qrs="}', "queue %s 8 10 c AABB"),
     ('{"fPort":10,"data":"qrs"}', "queue %s 8 10 u AABB"),
     ('{"fPort":255,"object":{},"flushQueue":false}', "queue %s 8 255 u -"),
@@ -83,7 +85,7 @@ COMMANDS = (
 
 KEY = "2B7E151628AED2A6ABF7158809CF4F3C"
 # a file of devices, and what is read: requests, or what is wrong with a line
-FILES = (
+FILES: tuple = (
     (f"{DEVICE},0102030405060708,{KEY}\n", [f"{DEVICE} 0102030405060708 {KEY} 0 1"]),
     (f"{DEVICE};0102030405060708;{KEY.lower()};5;15", [f"{DEVICE} 0102030405060708 {KEY} 5 15"]),
     (
@@ -107,25 +109,25 @@ FILES = (
 )
 
 # a line that refuses, and its code
-REFUSED = (("refused 12", "QUEUE_FULL"), ("refused 99", "REFUSED_99"))
+REFUSED: tuple = (("refused 12", "QUEUE_FULL"), ("refused 99", "REFUSED_99"))
 REFUSED += ((f"refused 12 {LATER}", "QUEUE_FULL"), ("refused 1 2", "REFUSED_1"))
 REFUSED += tuple((line, "REFUSED") for line in ("refused", "refused ", "refused x", "refused x 12"))
 
 
-def translated(line: str):
+def translated(line: str) -> tuple[str, dict]:
     """The kind of a line's event, and what it says besides whose it is and when."""
     event = Translator(3, {(DEVICE, 9): "3ac7e3c4"}).event(line, TIME)
     if (event.body.pop("time"), event.body.pop("deviceInfo")) != (TIME, INFO):
-        return "another device"
+        return "another device", {}
     return event.kind, event.body
 
 
-def asked(text: str):
+def asked(text: str) -> str:
     """The request of a command."""
     return Item.read(DEVICE, text.encode()).line(8)
 
 
-def read(text: str):
+def read(text: str) -> list[str]:
     """What is read of a file of devices."""
     with tempfile.NamedTemporaryFile() as file:
         file.write(text.encode())
@@ -137,7 +139,7 @@ def read(text: str):
 
 
 @pytest.mark.parametrize("more", ("", f" {LATER}"), ids=("today", "later"))
-def test_event_up(more):
+def test_event_up(more: str) -> None:
     """The event of a reading. Its identifier is the same if it comes again."""
     line = f"up {DEVICE} 5 10 1 AA 2 0016C001F153A14C 867100000 1 42 -36{more}"
     event, again = (Translator(3, {}).event(line, moment) for moment in (TIME, "later"))
@@ -151,7 +153,7 @@ def test_event_up(more):
 MARKS = (f"{DEVICE} 5 10", f"{DEVICE[:-1]}2 5 10", f"{DEVICE} 6 10", f"{DEVICE} 5 11")
 
 
-def test_identifiers_of_readings():
+def test_identifiers_of_readings() -> None:
     """Each reading has an identifier of its own."""
     lines = [f"up {mark} 1 AA 2 0016C001F153A14C 867100000 1 42 -36" for mark in MARKS]
     events = [Translator(3, {}).event(line, TIME) for line in lines]
@@ -159,12 +161,19 @@ def test_identifiers_of_readings():
 
 
 # an id, and whether it is a tag
-IDS = (("7", True), ("0", True), ("007", False), ("x", False), ("", False), ("1000000000", False))
+IDS: tuple = (
+    ("7", True),
+    ("0", True),
+    ("007", False),
+    ("x", False),
+    ("", False),
+    ("1000000000", False),
+)
 IDS += (("999999999", True), ("\u0667", False), ("-7", False))
 
 
 @table("text, is_tag", IDS)
-def test_tag_of_an_id(text: str, is_tag: bool):
+def test_tag_of_an_id(text: str, is_tag: bool) -> None:
     """An id that is a number is the tag, as it is; a tag of another one is above all of these."""
     tag = Names().add(DEVICE, text)
     assert (tag == int(text)) if is_tag else (tag >= 10**9)
@@ -172,31 +181,31 @@ def test_tag_of_an_id(text: str, is_tag: bool):
 
 @pytest.mark.parametrize("more", ("", f" {LATER}"), ids=("today", "later"))
 @table("line, due", LINES)
-def test_event(line, more, due):
+def test_event(line: str, more: str, due: Any) -> None:
     """The event of a line, also if a later server adds words."""
     assert outcome(translated, line + more) == due
 
 
 @table("answer, due", STATUSES)
-def test_status(answer, due):
+def test_status(answer: Any, due: Any) -> None:
     """A device's battery and margin."""
     assert tuple(status(*answer).values()) == due
 
 
 @table("text, due", COMMANDS)
-def test_command_down(text, due):
+def test_command_down(text: str, due: Any) -> None:
     """What is asked for a command."""
     text, due = (word % DEVICE if "%s" in word else word for word in (text, str(due)))
     assert str(outcome(asked, text)) == due
 
 
 @table("line, code", REFUSED)
-def test_refusal(line, code):
+def test_refusal(line: str, code: str) -> None:
     """The code of what the network refuses."""
     assert refusal(line)[0] == code
 
 
 @table("text, due", FILES)
-def test_devices(text, due):
+def test_devices(text: str, due: Any) -> None:
     """What is read of a file of devices."""
     assert read(text) == due

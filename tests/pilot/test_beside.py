@@ -6,7 +6,8 @@ import signal
 import subprocess
 import sys
 import time
-from collections.abc import Iterator
+from collections.abc import Callable, Iterator
+from typing import TextIO
 
 import pytest
 from bozintar.forwarders import Air, Forwarder
@@ -40,7 +41,7 @@ def bridge(parts: Parts, network: Network) -> Iterator[Bridge]:
     made.dashboard.end()
 
 
-def test_ids_of_two_devices(bridge: Bridge):
+def test_ids_of_two_devices(bridge: Bridge) -> None:
     """Items of two devices under one id: a number is the tag of both. One that comes again isn't
     asked for."""
     for text in ("41", "x"):
@@ -54,7 +55,7 @@ def test_ids_of_two_devices(bridge: Bridge):
     assert bridge.queued(FIRST, "another") != tags[0]
 
 
-def test_labels_of_counts(bridge: Bridge):
+def test_labels_of_counts(bridge: Bridge) -> None:
     """No count has the name and labels of another application's."""
     assert bridge.part.end() == 0
     with open(bridge.file, encoding="utf-8") as counts:
@@ -65,7 +66,7 @@ def test_labels_of_counts(bridge: Bridge):
 @pytest.mark.parametrize(
     "line, code", (("refused 12", "QUEUE_FULL"), ("refused", "REFUSED"), ("refused x", "REFUSED"))
 )
-def test_refused_item(bridge: Bridge, line: str, code: str):
+def test_refused_item(bridge: Bridge, line: str, code: str) -> None:
     """What the network refuses, in whatever words, may be asked for again."""
     for count in (1, 2):
         bridge.dashboard.down(FIRST, fPort=7, data="AA==", id="y")
@@ -76,14 +77,14 @@ def test_refused_item(bridge: Bridge, line: str, code: str):
         assert body["context"]["queue_item_id"] == "y"
 
 
-def test_answer_with_a_word_more(bridge: Bridge):
+def test_answer_with_a_word_more(bridge: Bridge) -> None:
     """An answer that says more than its format has is the answer all the same."""
     bridge.dashboard.down(FIRST, fPort=7, data="AA==", id="more")
     bridge.link.tell(" ".join(["queued", *bridge.link.asked()[1:3], "more"]))
     assert bridge.events("queued")[-1]["queueItemId"] == "more"
 
 
-def test_unanswered_item(bridge: Bridge):
+def test_unanswered_item(bridge: Bridge) -> None:
     """A link ends before an answer: the item is told by its id if it waits all the same."""
     bridge.dashboard.down(FIRST, fPort=7, data="AA==", id="z")
     tag = bridge.link.asked()[2]
@@ -96,7 +97,7 @@ def test_unanswered_item(bridge: Bridge):
     assert bridge.queued(FIRST, "z") != tag, "it is asked for again"
 
 
-def test_answer_for_another_item(bridge: Bridge):
+def test_answer_for_another_item(bridge: Bridge) -> None:
     """An answer of an earlier link, which comes first, isn't the answer for an item."""
     bridge.dashboard.down(FIRST, fPort=7, data="AA==", id="x")
     assert bridge.link.asked()[:2] == ["queue", FIRST]
@@ -106,7 +107,7 @@ def test_answer_for_another_item(bridge: Bridge):
     assert [body["queueItemId"] for body in bridge.events("queued")] == ["77"]
 
 
-def test_command_while_away(bridge: Bridge):
+def test_command_while_away(bridge: Bridge) -> None:
     """The broker keeps commands that come while the bridge is away."""
     bridge.part.send_signal(signal.SIGTERM)
     bridge.link.hears()
@@ -126,7 +127,7 @@ def ends_well(bridge: Bridge, *lines: str) -> None:
     assert bridge.part.ended() == 0
 
 
-def test_end(bridge: Bridge):
+def test_end(bridge: Bridge) -> None:
     """A bridge that is told to end takes what is in its link; a later run has other tags."""
     tag = int(bridge.queued(FIRST, "x"))
     bridge.link.tell(*map(up, range(300)))
@@ -139,7 +140,7 @@ def test_end(bridge: Bridge):
     assert apart > 1000, "a tag of a later run isn't near an earlier one's"
 
 
-def test_commands_at_the_end(bridge: Bridge):
+def test_commands_at_the_end(bridge: Bridge) -> None:
     """What becomes of commands that wait at the end is told and counted."""
     for text in "abcd":
         bridge.dashboard.down(FIRST, fPort=7, data="AA==", id=text)
@@ -154,7 +155,7 @@ def test_commands_at_the_end(bridge: Bridge):
     assert [counts[f"applications_mqtt_{name}"] for name in names] == [3, 1], names
 
 
-def test_broker_that_hangs(parts: Parts, network: Network):
+def test_broker_that_hangs(parts: Parts, network: Network) -> None:
     """A broker that takes nothing: a command waits for its answer, and the end is cut short."""
     after = "program.PATIENCE, program.LEAVING = 0.5, 60"
     bridge = Bridge(parts, network, "--room", "5", after=after)
@@ -181,7 +182,7 @@ def test_broker_that_hangs(parts: Parts, network: Network):
         bridge.broker.send_signal(signal.SIGCONT)
 
 
-def test_busy_loop():
+def test_busy_loop() -> None:
     """A signal that comes while a loop of events has much to do is heard."""
     ended = subprocess.run(
         [sys.executable, "-c", BUSY],
@@ -230,7 +231,7 @@ def counted(parts: Parts, part: Process, *names: str) -> list[int]:
     return [counts[f"gateways_udp_{name}"] for name in names]
 
 
-def test_frames_of_one_datagram(forwarder: Forwarder, link: End):
+def test_frames_of_one_datagram(forwarder: Forwarder, link: End) -> None:
     """Frames of one datagram are handed in as they came, and one of two channels once."""
     assert link.greeting == b"\x00" + EUI
     heard = [rxpk(1, b"older", 1), rxpk(2, b"newer", 7), rxpk(2, b"newer", 9), rxpk(3, b"x", 2)]
@@ -259,7 +260,7 @@ WINDOWS = {
 
 
 @pytest.mark.parametrize("more_words", [("--power", "14", "--rx2-power", "27")])
-def test_second_window(forwarder: Forwarder, link: End):
+def test_second_window(forwarder: Forwarder, link: End) -> None:
     """If RX1 can't be sent in, RX2 is tried: it's later, on another frequency, with a power of its
     own. A moment that is too far away isn't nearer in RX2."""
     air = Air([forwarder], [])
@@ -268,13 +269,15 @@ def test_second_window(forwarder: Forwarder, link: End):
         forwarder.told.clear()
         forwarder.errors.append(error)
         link.say(downlink_after(link))
-        air.go_on(5, lambda due=windows: len(forwarder.told) == due)
+        air.go_on(5, lambda: len(forwarder.told) == windows)
         air.go_on(0.15)
         powers = [told["powe"] for told in forwarder.told]
         assert powers == [14, 27][:windows], f"windows after {error}"
 
 
-def test_second_window_is_the_last(forwarder: Forwarder, link: End, parts: Parts, part: Process):
+def test_second_window_is_the_last(
+    forwarder: Forwarder, link: End, parts: Parts, part: Process
+) -> None:
     """A downlink that can't be sent in RX2 either isn't tried again."""
     forwarder.hears(bytes(12))
     forwarder.errors.extend(["TOO_LATE"] * 10)
@@ -284,9 +287,9 @@ def test_second_window_is_the_last(forwarder: Forwarder, link: End, parts: Parts
     assert counted(parts, part, "in_rx2", "not_sent", "sent") == [1, 1, 0]
 
 
-def test_many_downlinks_at_once(forwarder: Forwarder, link: End):
+def test_many_downlinks_at_once(forwarder: Forwarder, link: End) -> None:
     """Each downlink has a token of its own, so that each answer is of one."""
-    tokens = set()
+    tokens: set[bytes] = set()
     for _ in range(MANY):
         forwarder.hears(bytes(12))
         link.say(downlink_after(link))
@@ -298,7 +301,9 @@ def test_many_downlinks_at_once(forwarder: Forwarder, link: End):
             tokens.add(data[1:3])
 
 
-def test_downlink_of_another_clock(forwarder: Forwarder, link: End, parts: Parts, part: Process):
+def test_downlink_of_another_clock(
+    forwarder: Forwarder, link: End, parts: Parts, part: Process
+) -> None:
     """A downlink whose gateway has begun its clock anew is sent at no moment of the new one."""
     forwarder.hears(bytes(12))
     downlink = downlink_after(link)
@@ -315,7 +320,7 @@ def test_downlink_of_another_clock(forwarder: Forwarder, link: End, parts: Parts
 @pytest.mark.parametrize("more_words", [("--silent", "1")])
 def test_silent_gateway(
     forwarder: Forwarder, link: End, network: Network, parts: Parts, part: Process
-):
+) -> None:
     """The address of a gateway that is silent isn't used any more: once it hears a frame, it has to
     ask for downlinks first."""
     await_that("it is silent", lambda: "is silent" in part.said())
@@ -345,10 +350,12 @@ def next_link(network: Network, forwarder: Forwarder, seconds: float = 20.0) -> 
 @pytest.mark.parametrize(
     "output", (nobody_reads, lambda: open("/dev/full", "w")), ids=("a pipe", "a full disk")
 )
-def test_output_that_cant_be_written(parts: Parts, network: Network, output):
+def test_output_that_cant_be_written(
+    parts: Parts, network: Network, output: Callable[[], TextIO]
+) -> None:
     """What a program prints can't be written: its gateways are linked, and linked again."""
-    words = ("--network", network.at, "--udp", f"{HOST}:{parts.udp_port}")
-    words = (sys.executable, PILOT / "gateways-udp", *words, "--gateway", GATEWAYS[0])
+    at = ("--network", network.at, "--udp", f"{HOST}:{parts.udp_port}")
+    words = (sys.executable, str(PILOT / "gateways-udp"), *at, "--gateway", GATEWAYS[0])
     with output() as file:
         program = subprocess.Popen(words, stdout=file, stderr=subprocess.PIPE, text=True)
         try:
@@ -361,7 +368,7 @@ def test_output_that_cant_be_written(parts: Parts, network: Network, output):
     assert (program.returncode, said) == (0, "")
 
 
-def test_end_while_a_name_is_looked_up(parts: Parts):
+def test_end_while_a_name_is_looked_up(parts: Parts) -> None:
     """A name server that says nothing for a minute doesn't delay the end; a list of gateways may
     begin with a byte order mark."""
     named = ("--gateways", parts.file("gateways", f"\ufeff{GATEWAYS[0]}\r\n"))
@@ -371,14 +378,14 @@ def test_end_while_a_name_is_looked_up(parts: Parts):
     assert part.end() == 0
 
 
-def test_too_many_gateways(parts: Parts):
+def test_too_many_gateways(parts: Parts) -> None:
     """It says how many there may be."""
     named = [word for number in range(65) for word in ("--gateway", f"{number:016X}")]
     part = gateways(parts, "127.0.0.1:1", *named, ready="for 65 gateways")
     assert " 64 " in part.said()
 
 
-def test_end_without_a_broker(parts: Parts):
+def test_end_without_a_broker(parts: Parts) -> None:
     """Neither the network nor a broker is there."""
     words = ("--network", "127.0.0.1:1", "--broker", "127.0.0.1:1", "--application", "3")
     part = parts.own("applications-mqtt", *words).start("no link to")

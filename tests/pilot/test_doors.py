@@ -74,7 +74,7 @@ AT_THE_BROKER = (
 
 
 # a certificate's subject as stunnel says it, and the names in it
-SUBJECTS = (
+SUBJECTS: tuple = (
     ("CN=0016c001f153a14c", {"0016c001f153a14c"}),
     ("CN=0016c001f153a14c, OU=0016c001f153a14d", {"0016c001f153a14c", "0016c001f153a14d"}),
     ("/O=Bozintar/CN=application-3", {"application-3"}),
@@ -88,19 +88,25 @@ SUBJECTS = (
 
 
 @table("subject, names", SUBJECTS)
-def test_names_of_a_certificate(subject: str, names: set[str]):
+def test_names_of_a_certificate(subject: str, names: set[str]) -> None:
     """The names in a certificate are whole ones."""
     assert program_of_pilot("secure/door").names_of(subject) == names
 
 
 @pytest.mark.timed
-def test_slow_greeting(tmp_path: Path):
+def test_slow_greeting(tmp_path: Path) -> None:
     """A client that says a byte of its greeting now and then is closed ten seconds after its first
     one, and nothing of it is passed on."""
     ours, theirs = socket.socketpair()
-    words = [sys.executable, PILOT / "secure/door", f"{HOST}:1", "--log", tmp_path / "log"]
+    words = [
+        sys.executable,
+        str(PILOT / "secure/door"),
+        f"{HOST}:1",
+        "--log",
+        str(tmp_path / "log"),
+    ]
     environment = {**os.environ, "SSL_CLIENT_DN": f"CN={PLACE}"}
-    with ours, subprocess.Popen(words, stdin=theirs, env=environment) as door:
+    with ours, subprocess.Popen(words, stdin=theirs.fileno(), env=environment) as door:
         theirs.close()
         begun = time.monotonic()
         for byte in gateway(GATEWAYS[0])[:-1]:
@@ -125,7 +131,15 @@ def opened(program: str, certificates: Certificates) -> Iterator[Doors]:
 
 
 @table("name, authority, certificate, said, due, lines", AT_THE_DOOR)
-def test_at_the_door(opened: Doors, name, authority, certificate, said, due, lines):
+def test_at_the_door(
+    opened: Doors,
+    name: str,
+    authority: str,
+    certificate: str | None,
+    said: bytes,
+    due: Any,
+    lines: int,
+) -> None:
     """Who is let in, and who isn't."""
     before = len(opened.told())
     context = opened.own.context(certificate, getattr(opened, authority))
@@ -140,7 +154,7 @@ def test_at_the_door(opened: Doors, name, authority, certificate, said, due, lin
         ("own", None, "peer did not return a certificate"),
     ),
 )
-def test_stunnel_says_why(opened: Doors, authority, certificate, why: str):
+def test_stunnel_says_why(opened: Doors, authority: str, certificate: str | None, why: str) -> None:
     """The log of stunnel says why a client was refused."""
     before = opened.stunnel.said().count(why)
     context = opened.own.context(certificate, getattr(opened, authority))
@@ -148,7 +162,7 @@ def test_stunnel_says_why(opened: Doors, authority, certificate, why: str):
     assert opened.stunnel.said().count(why) > before
 
 
-def test_client_without_tls(opened: Doors):
+def test_client_without_tls(opened: Doors) -> None:
     """A client without TLS is closed."""
     with socket.create_connection((HOST, opened.port), 10) as plain:
         plain.sendall(gateway(GATEWAYS[0]))
@@ -156,7 +170,7 @@ def test_client_without_tls(opened: Doors):
         assert ended(plain)
 
 
-def test_gateways_through_two_stunnels(doors: Doors):
+def test_gateways_through_two_stunnels(doors: Doors) -> None:
     """A gateway's bridge reaches the server through two stunnels; one that isn't named doesn't."""
     doors.open()
     pilot, port = doors.pilot, doors.open_client(doors.port)
@@ -193,7 +207,9 @@ def broker(program: str, certificates: Certificates) -> Iterator[Doors]:
 
 
 @table("name, authority, certificate, due", AT_THE_BROKER)
-def test_at_the_broker(broker: Doors, name, authority, certificate, due: bool):
+def test_at_the_broker(
+    broker: Doors, name: str, authority: str, certificate: str | None, due: bool
+) -> None:
     """Whom the broker takes words of."""
     context = broker.own.context(certificate, getattr(broker, authority))
     assert refused_by_broker(broker.broker_port, context) == due
@@ -206,7 +222,7 @@ def station(doors: Doors, kind: type[Secured] = Secured) -> Secured:
     return made
 
 
-def test_events_of_another_gateway(broker: Doors):
+def test_events_of_another_gateway(broker: Doors) -> None:
     """A gateway can't speak for another one."""
     topic = "eu868/gateway/+/event/+"
     with Dashboard(broker.pilot.broker_port, topic) as dashboard, station(broker) as own:
@@ -217,7 +233,7 @@ def test_events_of_another_gateway(broker: Doors):
         assert [device for device, _, _ in dashboard.events] == [GATEWAYS[0]], "whose events came"
 
 
-def test_commands_of_another_gateway(broker: Doors):
+def test_commands_of_another_gateway(broker: Doors) -> None:
     """A gateway can't hear what is for another one, or for an application."""
     heard: list[str] = []
     with Dashboard(broker.pilot.broker_port) as dashboard, station(broker) as own:
@@ -232,9 +248,10 @@ def test_commands_of_another_gateway(broker: Doors):
     assert set(heard) == {f"eu868/gateway/{PLACE}/command/other"}
 
 
-def test_bridge_without_certificate(broker: Doors):
+def test_bridge_without_certificate(broker: Doors) -> None:
     """A bridge whose certificate isn't taken says so, and is there when it is told to end."""
-    words = ("--network", broker.pilot.network, "--broker", f"localhost:{broker.broker_port}")
+    words: tuple = ("--network", broker.pilot.network)
+    words += ("--broker", f"localhost:{broker.broker_port}")
     words += ("--gateway", GATEWAYS[0], "--ca", f"{broker.own.folder}/ca.crt")
     bridge = broker.pilot.own("gateways-mqtt", *words, name="gateways-mqtt-refused")
     bridge.start("no broker at")
@@ -247,7 +264,7 @@ def stored_in(database: str) -> int:
         return opened.execute("SELECT count(*) FROM readings").fetchone()[0]
 
 
-def test_session_of_another(broker: Doors):
+def test_session_of_another(broker: Doors) -> None:
     """A gateway that connects under the id of the readings on loopback doesn't get their session:
     they stay connected, and what waits for them while they are away is there afterwards."""
     pilot, database = broker.pilot, broker.pilot.file("loopback.db")
@@ -270,7 +287,7 @@ def test_session_of_another(broker: Doors):
     readings.end()
 
 
-def test_bridges_with_certificates(doors: Doors):
+def test_bridges_with_certificates(doors: Doors) -> None:
     """Bridges, a gateway and readings that come by certificates, and a reading over them."""
     pilot, meter, port = doors.pilot, Meter(1), doors.open_broker()
 
@@ -281,7 +298,7 @@ def test_bridges_with_certificates(doors: Doors):
 
     network, application = ("--network", pilot.network), ("--application", APPLICATION)
     devices, database = pilot.file("secured.csv", meter.row() + "\n"), pilot.file("secured.db")
-    words = (*network, "--gateway", GATEWAYS[0])
+    words: tuple = (*network, "--gateway", GATEWAYS[0])
     started("gateways-mqtt", "bridge-gateways", *words, ready="connected to")
     words, name = (*network, *application, "--devices", devices), f"application-{APPLICATION}"
     started("applications-mqtt", f"bridge-{name}", *words, ready="1 devices are there")

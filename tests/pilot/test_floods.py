@@ -35,7 +35,7 @@ SENT = DATAGRAMS * EACH
 NAMED = [word for eui in GATEWAYS[:2] for word in ("--gateway", eui)]
 
 
-def test_bucket():
+def test_bucket() -> None:
     """How many frames are handed in at which moments."""
     bucket = Bucket(RATE, BURST)
     for moment, count, due in FRAMES:
@@ -51,7 +51,7 @@ def payload_of(content: bytes) -> bytes:
 def came_on(link: End) -> list[bytes]:
     """The frames that come on a link until it ends."""
     found = []
-    while (content := link.hears()) not in (None, b"reset", b"nothing"):
+    while (content := link.hears()) and content not in (b"reset", b"nothing"):
         found.append(payload_of(content))
     return found
 
@@ -87,7 +87,7 @@ class Flood:
 
 
 @pytest.mark.timed
-def test_flood_by_udp(parts: Parts, network: Network):
+def test_flood_by_udp(parts: Parts, network: Network) -> None:
     """A gateway floods the bridge of gateways by UDP."""
     file = parts.file("gateways.prom")
     flood = Flood(gateways(parts, network.at, *NAMED, "--counts", file, ready="listens on"))
@@ -102,7 +102,7 @@ def test_flood_by_udp(parts: Parts, network: Network):
         heard = [rxpk(number, b"%04d" % number, 7) for number in numbers]
         count = first.acknowledged
         first.say(0, json.dumps({"rxpk": heard}).encode())
-        Air([first], []).go_on(10, lambda before=count: first.acknowledged > before)
+        Air([first], []).go_on(10, lambda: first.acknowledged > count)
     second.hears(b"loud", snr=50)
     second.hears(b"last")
     Air([second], []).go_on(10, lambda: second.acknowledged >= 4)
@@ -111,7 +111,7 @@ def test_flood_by_udp(parts: Parts, network: Network):
 
 
 @pytest.mark.timed
-def test_flood_by_mqtt(parts: Parts, network: Network):
+def test_flood_by_mqtt(parts: Parts, network: Network) -> None:
     """A gateway floods the bridge of gateways by MQTT."""
     parts.broker().start("running")
     file = parts.file("gateways.prom")

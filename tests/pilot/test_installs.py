@@ -10,11 +10,12 @@ import subprocess
 import sys
 from collections.abc import Callable, Iterator
 from pathlib import Path
+from typing import Any
 
 import pytest
 from bozintar.server import Program
 
-from .parts import PILOT
+from .parts import PILOT, run
 
 PROGRAMS, UNITS = Path("opt/bozintar"), Path("etc/systemd/system")
 SETTINGS = Path("etc/mosquitto/conf.d/bozintar.conf")
@@ -31,29 +32,33 @@ STRAYS = {
     "python/keys.py": 0o644,
     "python/bozintar/keys.py": 0o600,
 }
-LINKS = ("shadow", "secure/shadow", "bridges/shadow.py", "systemd/shadow.service")
-LINKS = (*(f"pilot/{name}" for name in LINKS), "python/bozintar/shadow.py")
+LINKS = [
+    *("pilot/shadow", "pilot/secure/shadow", "pilot/bridges/shadow.py"),
+    *("pilot/systemd/shadow.service", "python/bozintar/shadow.py"),
+]
 # what needs the whole repository
 OF_THE_REPOSITORY = ("play", "speed", "__pycache__")
 # the most slots of a store, and its length then, by docs/OPERATING.md
 MOST_SLOTS, MOST_BYTES = 4096, 37_363_804
 # how the names of the pilot's own texts end: a clone may have an operator's files already
 TEXTS = (".acl", ".conf", ".md", ".py", ".service", ".timer", ".yml")
-RUN = ("applications-mqtt", "gateways-mqtt", "gateways-udp", "install", "metrics", "readings")
-RUN += ("secure/certificates", "secure/door")
+RUN = [
+    *("applications-mqtt", "gateways-mqtt", "gateways-udp", "install", "metrics", "readings"),
+    *("secure/certificates", "secure/door"),
+]
 
 
 class Clone:
     """A copy of pilot/ and of the package, in which an operator has left files and links, and where
     it is installed."""
 
-    def __init__(self, folder: Path, umask: int):
+    def __init__(self, folder: Path, umask: int) -> None:
         self.top, self.to = folder / "clone", folder / "to"
         ignored = shutil.ignore_patterns(*OF_THE_REPOSITORY)
         for name in ("pilot", "python"):
             shutil.copytree(PILOT.parent / name, self.top / name, ignore=ignored)
-        for name in self.files():
-            (self.top / name).chmod((0o777 if is_program(self.top / name) else 0o666) & ~umask)
+        for own in self.files():
+            (self.top / own).chmod((0o777 if is_program(self.top / own) else 0o666) & ~umask)
         self.own, secret = self.files(), folder / "secret"
         secret.write_text(SECRET, encoding="utf-8")
         for name, mode in STRAYS.items():
@@ -74,8 +79,8 @@ class Clone:
     def install(self) -> subprocess.CompletedProcess:
         """Installs it, as an operator with a strict umask does."""
         words = [sys.executable, self.top / "pilot/install", "--services", "--root", self.to]
-        how = {"capture_output": True, "text": True, "check": False, "umask": 0o077}
-        return subprocess.run(words, **how)
+        how: dict[str, Any] = {"capture_output": True, "text": True, "umask": 0o077}
+        return subprocess.run(list(map(str, words)), check=False, **how)
 
     def came(self, below: Path) -> set[Path]:
         """The files that came below a folder."""
@@ -102,14 +107,14 @@ def clone(request: pytest.FixtureRequest, tmp_path: Path) -> Clone:
     return made
 
 
-def test_what_is_copied(clone: Clone):
+def test_what_is_copied(clone: Clone) -> None:
     """The files of the pilot and its units come; what lies beside them doesn't."""
     assert clone.came(PROGRAMS) == clone.own
     units = {file.relative_to(UNITS_OF) for file in clone.own if file.is_relative_to(UNITS_OF)}
     assert clone.came(UNITS) == units
 
 
-def test_nothing_private(clone: Clone):
+def test_nothing_private(clone: Clone) -> None:
     """No file that came is a link, or has what the operator left."""
     for name in sorted(clone.came(Path())):
         file = clone.to / name
@@ -117,7 +122,7 @@ def test_nothing_private(clone: Clone):
         assert SECRET not in file.read_text(encoding="utf-8"), name
 
 
-def test_modes(clone: Clone):
+def test_modes(clone: Clone) -> None:
     """Programs can be run, and all users can read all but the folder for lists and keys."""
     for file in sorted(clone.to.rglob("*")):
         is_run = file.is_dir() or is_program(file)
@@ -126,15 +131,15 @@ def test_modes(clone: Clone):
         assert oct(mode_of(file)) == oct(due if is_run else 0o644), name
 
 
-def test_installed_programs(clone: Clone):
+def test_installed_programs(clone: Clone) -> None:
     """Each program has all that it needs."""
     for name in RUN:
-        words = [clone.to / PROGRAMS / "pilot" / name, "--help"]
+        words = [str(clone.to / PROGRAMS / "pilot" / name), "--help"]
         ended = subprocess.run(words, capture_output=True, text=True, check=False)
         assert (ended.returncode, ended.stderr) == (0, ""), name
 
 
-def test_installed_again(clone: Clone):
+def test_installed_again(clone: Clone) -> None:
     """Installed again, programs are replaced, and what is in /etc stays and is named if it
     differs."""
     settings, old = clone.to / SETTINGS, clone.to / PROGRAMS / "pilot/old"
@@ -150,7 +155,7 @@ def test_installed_again(clone: Clone):
 
 
 @pytest.mark.parametrize("name", ("pilot/alerts.yml", "pilot/bridges", "python/bozintar"))
-def test_link_in_place(clone: Clone, name: str):
+def test_link_in_place(clone: Clone, name: str) -> None:
     """A link in the place of a file, or of a folder, isn't followed; what is installed stays."""
     place, aside = clone.top / name, clone.top.parent / "aside"
     place.rename(aside)
@@ -164,18 +169,19 @@ def test_link_in_place(clone: Clone, name: str):
 @pytest.mark.parametrize(
     "words", (("--root", "/nowhere"), ("--look", "--services", "--root", "/nowhere"))
 )
-def test_root_without_services(words: tuple):
+def test_root_without_services(words: tuple) -> None:
     """--root goes with --services alone."""
-    install = [sys.executable, PILOT / "install", *words]
-    ended = subprocess.run(install, capture_output=True, text=True, check=False)
-    assert (ended.returncode, ended.stderr.count("\n")) == (2, 1)
+    status, _, said = run("install", *words)
+    assert (status, said.count("\n")) == (2, 1)
     assert not os.path.exists("/nowhere"), "it makes no folder"
 
 
 def of_the_unit(store: str, program: str) -> list[str]:
     """The command by which the unit of lnsd makes a store."""
     text = (PILOT.parent / "contrib/lnsd.service").read_text(encoding="utf-8")
-    line = re.search(r"^ExecStartPre=((?:.*\\\n)*.*)", text, re.MULTILINE)[1]
+    found = re.search(r"^ExecStartPre=((?:.*\\\n)*.*)", text, re.MULTILINE)
+    assert found
+    line = found[1]
     line = line.replace("\\\n", "").replace("/usr/local/bin/lnsd", program)
     return shlex.split(line.replace("%S/lnsd/store", store))
 
@@ -183,8 +189,9 @@ def of_the_unit(store: str, program: str) -> list[str]:
 def of_the_hour(store: str, program: str) -> list[str]:
     """The command by which the hour of the README makes a store."""
     text = (PILOT / "README.md").read_text(encoding="utf-8")
-    line = re.search(r"^ +bin/lnsd (format .*)", text, re.MULTILINE)[1]
-    return [program, *line.replace("~/pilot/store", store).split()]
+    found = re.search(r"^ +bin/lnsd (format .*)", text, re.MULTILINE)
+    assert found
+    return [program, *found[1].replace("~/pilot/store", store).split()]
 
 
 @pytest.fixture
@@ -195,7 +202,7 @@ def server(program: str) -> Iterator[Program]:
 
 
 @pytest.mark.parametrize("command_of, times", ((of_the_unit, 2), (of_the_hour, 1)))
-def test_first_store(server: Program, command_of: Callable, times: int):
+def test_first_store(server: Program, command_of: Callable, times: int) -> None:
     """The unit and the hour make a store of 4,096 slots, and the unit leaves one that is there."""
     words = command_of(server.store, server.path)
     for _ in range(times):

@@ -3,8 +3,6 @@
 import random
 import resource
 import signal
-import subprocess
-import sys
 import time
 from collections import Counter
 
@@ -13,7 +11,7 @@ from bozintar.frames import CHANNELS
 from bozintar.meters import Meter
 
 from .hostile import flood
-from .parts import PILOT
+from .parts import run
 from .stations import ByStations
 from .whole import Whole
 
@@ -29,7 +27,7 @@ BETWEEN = {"server": (0.2, 0.6), "broker": (1.0, 2.0), "applications": (0.2, 0.6
 class Load:
     """Meters that send, each as soon as it was acknowledged or has waited enough."""
 
-    def __init__(self, whole: Whole, seed: int):
+    def __init__(self, whole: Whole, seed: int) -> None:
         self.whole, self.air, self.chance = whole, whole.air, random.Random(seed)
         # of each meter: until when it waits, and the frame that it sent last
         self.due: dict[int, float] = {}
@@ -99,7 +97,8 @@ def no_mark_twice(whole: Whole) -> None:
     """No mark twice: no counter of a downlink, and nothing stored that wasn't sent so."""
     stored = whole.stored()
     for meter in whole.meters:
-        twice = [mark for mark, count in Counter(meter.downlinks).items() if count > 1]
+        counts = Counter(heard.mark for heard in meter.downlinks)
+        twice = [heard for heard in meter.downlinks if counts[heard.mark] > 1]
         assert twice == [], f"downlinks that {meter.dev_eui} heard twice"
     sent = {mark: payload for meter in whole.meters for mark, payload in meter.sent.items()}
     strange = {mark for mark, payload in stored.items() if sent.get(mark) != payload}
@@ -110,9 +109,8 @@ def losses_are_counted(whole: Whole) -> None:
     """What isn't stored is counted by the report: by counters, and by what the server took."""
     whole.pilot.program.stop()
     listed = whole.pilot.file("list", "\n".join(whole.pilot.program.list()) + "\n")
-    program = [sys.executable, PILOT / "readings", "--db", whole.database]
-    words = [*program, "--report", "--list", listed]
-    told = subprocess.run(words, capture_output=True, text=True, check=True).stdout
+    status, told, _ = run("readings", "--db", whole.database, "--report", "--list", listed)
+    assert status == 0
     stored, acknowledged = whole.stored(), whole.acknowledged()
     of_device = Counter(mark.device for mark in stored)
     lost = Counter(mark.device for mark in acknowledged if mark not in stored)
@@ -128,7 +126,7 @@ def losses_are_counted(whole: Whole) -> None:
 
 @pytest.mark.slow
 @pytest.mark.parametrize("meters", [METERS])
-def test_each_part(whole: Whole, seed: int):
+def test_each_part(whole: Whole, seed: int) -> None:
     """200 meters; each part is killed ten times."""
     load = Load(whole, seed)
     for name in ("readings", "gateways"):
@@ -147,14 +145,15 @@ def test_each_part(whole: Whole, seed: int):
         changed_forwarders(whole, load.chance)
     whole.air.go_on(30, lambda: whole.pilot.program.status()["gateways"] == "3")
     assert load.rest(), "all are acknowledged again"
-    last = {meter.awaited: meter.sent[meter.awaited] for meter in whole.meters}
+    marks = {meter.awaited: meter for meter in whole.meters if meter.awaited}
+    last = {mark: meter.sent[mark] for mark, meter in marks.items()}
     assert whole.await_stored(last), "the last ones are stored"
     no_mark_twice(whole)
     losses_are_counted(whole)
 
 
 @pytest.mark.parametrize("meters", [20])
-def test_gateways_by_mqtt(by_stations: ByStations, seed: int):
+def test_gateways_by_mqtt(by_stations: ByStations, seed: int) -> None:
     """The bridge of gateways by MQTT is killed ten times, and then stopped without its broker."""
     load = Load(by_stations, seed)
     for _ in range(TIMES):
@@ -174,7 +173,7 @@ def test_gateways_by_mqtt(by_stations: ByStations, seed: int):
 
 @pytest.mark.slow
 @pytest.mark.parametrize("meters", [30])
-def test_broker_away(whole: Whole, seed: int):
+def test_broker_away(whole: Whole, seed: int) -> None:
     """The broker is away for a minute, in which strangers flood the gateways' port; then a disk
     is full. Nothing is lost."""
     load = Load(whole, seed)

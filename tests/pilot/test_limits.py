@@ -72,7 +72,7 @@ def door(doors: Doors) -> Doors:
     return doors
 
 
-def test_silent_server(door: Doors):
+def test_silent_server(door: Doors) -> None:
     """A gateway's end of the door gives up a server that says nothing."""
     with socket.create_server((HOST, 0)) as server:
         port = door.open_client(server.getsockname()[1])
@@ -83,7 +83,7 @@ def test_silent_server(door: Doors):
 
 
 @pytest.mark.slow
-def test_silent_clients_at_the_door(door: Doors):
+def test_silent_clients_at_the_door(door: Doors) -> None:
     """Silent clients keep others out for ten seconds, and a link that is idle for longer stays."""
     context, mine = door.own.context(GATEWAYS[0].lower()), door.own.context("application-3")
     gateways = lambda: door.pilot.program.status()["gateways"]
@@ -109,7 +109,7 @@ def is_let_in(port: int) -> bool:
         return False
 
 
-def test_silent_clients_at_the_broker(broker: Doors):
+def test_silent_clients_at_the_broker(broker: Doors) -> None:
     """Clients from outside leave descriptors to those of loopback; once they are gone, others from
     outside are let in."""
     context, port = broker.own.context(GATEWAYS[0].lower()), broker.broker_port
@@ -119,7 +119,7 @@ def test_silent_clients_at_the_broker(broker: Doors):
     await_that("one from outside is let in", lambda: not refused_by_broker(port, context))
 
 
-def test_long_messages(broker: Doors):
+def test_long_messages(broker: Doors) -> None:
     """The longest message is passed on, and a longer one isn't; its client goes on."""
     with Dashboard(broker.pilot.broker_port) as dashboard:
         for length in (LONGEST, LONGEST + 1, 3):
@@ -132,7 +132,7 @@ def test_long_messages(broker: Doors):
 class Kept(Client):
     """A client whose session the broker keeps while it is away."""
 
-    def __init__(self, port: int):
+    def __init__(self, port: int) -> None:
         self.numbers: list[int] = []
         self.port, self.is_there = port, False
         self.client = client("kept")
@@ -156,7 +156,7 @@ class Kept(Client):
 
 
 @pytest.mark.slow
-def test_when_the_broker_writes(broker: Doors):
+def test_when_the_broker_writes(broker: Doors) -> None:
     """The broker writes what waits to its disk: not each second, but twice a minute."""
     begun, file = time.monotonic(), broker.pilot.file("mosquitto.db")
     with Kept(broker.pilot.broker_port) as kept:
@@ -168,7 +168,7 @@ def test_when_the_broker_writes(broker: Doors):
     assert time.monotonic() - begun < EVERY + 5
 
 
-def test_what_waits(broker: Doors):
+def test_what_waits(broker: Doors) -> None:
     """The broker keeps so many bytes for a client that is away, and drops what comes then. It keeps
     them when it is stopped."""
     port, count = broker.pilot.broker_port, WAITING // LONGEST + 50

@@ -3,8 +3,6 @@
 import base64
 import json
 import signal
-import subprocess
-import sys
 from collections.abc import Iterable, Iterator
 
 import pytest
@@ -12,7 +10,7 @@ from bozintar.meters import Meter, Reading
 from bozintar.processes import HOST, await_that
 
 from .field import APPLICATION, GATEWAYS
-from .parts import PILOT, Parts
+from .parts import Parts, run
 from .whole import Dashboard, Whole
 
 TAG = 41
@@ -37,7 +35,7 @@ def meters() -> int:
 
 
 @pytest.mark.parametrize("meters", [4])
-def test_readings(whole: Whole):
+def test_readings(whole: Whole) -> None:
     """Readings are acknowledged and stored; each part ends by Ctrl-C."""
     for meter in whole.meters:
         assert whole.reading(meter), "a reading is acknowledged"
@@ -46,7 +44,7 @@ def test_readings(whole: Whole):
         assert part.end(signal.SIGINT) == 0, f"{part.name} ends by Ctrl-C"
 
 
-def test_event_up(whole: Whole, dashboard: Dashboard):
+def test_event_up(whole: Whole, dashboard: Dashboard) -> None:
     """What an event `up` says."""
     meter = whole.meters[0]
     assert whole.reading(meter)
@@ -69,7 +67,7 @@ def item_for(meter: Meter, payload: bytes) -> dict:
     return {"devEui": meter.dev_eui.lower(), "fPort": 7, "confirmed": True, "data": data}
 
 
-def test_item(whole: Whole, dashboard: Dashboard):
+def test_item(whole: Whole, dashboard: Dashboard) -> None:
     """An item goes down, and is acknowledged."""
     meter, name = whole.meters[0], "3ac7e3c4-4401-4b8d-9386-a5c902f9202d"
     dashboard.down(meter.dev_eui, id=name, **item_for(meter, b"\xc0\xff\xee"))
@@ -82,7 +80,7 @@ def test_item(whole: Whole, dashboard: Dashboard):
     assert (came["queueItemId"], came["acknowledged"]) == (name, True)
 
 
-def test_lost_item(whole: Whole, dashboard: Dashboard):
+def test_lost_item(whole: Whole, dashboard: Dashboard) -> None:
     """An item goes down, and its meter doesn't acknowledge it."""
     meter = whole.meters[0]
     dashboard.down(meter.dev_eui, id=str(TAG), **item_for(meter, b"\xc0\xff\xee"))
@@ -95,7 +93,7 @@ def test_lost_item(whole: Whole, dashboard: Dashboard):
     assert (came["queueItemId"], came["tag"], came["acknowledged"]) == (str(TAG), TAG, False)
 
 
-def test_refused_items(whole: Whole, dashboard: Dashboard):
+def test_refused_items(whole: Whole, dashboard: Dashboard) -> None:
     """Items that the network refuses, and commands that aren't in the format. An item that comes
     twice under one id is queued once."""
     device = whole.meters[0].dev_eui
@@ -124,7 +122,7 @@ def wrong_events(good: dict) -> list:
     return wrong + [{**good, "time": "\ud800"}, {"deviceInfo": 7}, {}, []]
 
 
-def test_wrong_events(whole: Whole, dashboard: Dashboard):
+def test_wrong_events(whole: Whole, dashboard: Dashboard) -> None:
     """An event that comes twice is stored once; what is no event is passed over."""
     meter = whole.meters[0]
     assert whole.reading(meter)
@@ -140,7 +138,7 @@ def test_wrong_events(whole: Whole, dashboard: Dashboard):
     assert len(whole.stored()) - len(before) == 1, "readings that are new"
 
 
-def test_retained_command(whole: Whole, dashboard: Dashboard):
+def test_retained_command(whole: Whole, dashboard: Dashboard) -> None:
     """A command that a broker retains is done when it comes, and not again at each new start."""
     device = whole.meters[0].dev_eui
     topic = f"application/{APPLICATION}/device/{device.lower()}/command/down"
@@ -155,7 +153,7 @@ def test_retained_command(whole: Whole, dashboard: Dashboard):
 
 
 @pytest.mark.parametrize("meters", [4])
-def test_devices_again(whole: Whole):
+def test_devices_again(whole: Whole) -> None:
     """The same file again, with a new line and a wrong one."""
     part, other = whole.applications, Meter(99)
     said = len(part.said())
@@ -169,17 +167,10 @@ def test_devices_again(whole: Whole):
     assert told[-1].endswith("5 devices are there, 1 aren't")
 
 
-def printed_by_readings(*words: str) -> tuple[int, str, str]:
-    """How readings ends, and what it prints."""
-    program = [sys.executable, PILOT / "readings", *words]
-    ended = subprocess.run(program, capture_output=True, text=True, check=False)
-    return ended.returncode, ended.stdout, ended.stderr
-
-
 class Stored:
     """Readings that are stored, of events that come on a broker."""
 
-    def __init__(self, parts: Parts):
+    def __init__(self, parts: Parts) -> None:
         parts.broker().start("running")
         self.database, at = parts.file("readings.db"), f"{HOST}:{parts.broker_port}"
         words = ("--db", self.database, "--broker", at, "--application", APPLICATION)
@@ -196,7 +187,7 @@ class Stored:
 
     def prints(self, option: str) -> tuple[int, str, str]:
         """What it prints of its database."""
-        return printed_by_readings("--db", self.database, option)
+        return run("readings", "--db", self.database, option)
 
 
 @pytest.fixture
@@ -207,7 +198,7 @@ def stored(parts: Parts) -> Iterator[Stored]:
         yield made
 
 
-def test_join_nonces(stored: Stored):
+def test_join_nonces(stored: Stored) -> None:
     """The highest JoinNonce of each device that is stored, also while readings are stored."""
     assert stored.prints("--join-nonces") == (0, f"{HEAD}\n", ""), "before a reading"
     stored.say(SESSIONS)
@@ -234,7 +225,7 @@ REPORT = (
 )
 
 
-def test_report(stored: Stored):
+def test_report(stored: Stored) -> None:
     """How many readings are stored of each device, and how many counters are missing, of each
     session from 0 on."""
     marks = [(dev, session, each) for dev, session, counters in COUNTERS for each in counters]
@@ -245,7 +236,7 @@ def test_report(stored: Stored):
     assert stored.prints("--report") == due
 
 
-def test_readings_while_away(stored: Stored):
+def test_readings_while_away(stored: Stored) -> None:
     """The broker keeps readings while the program that stores them is away."""
     assert stored.part.end() == 0
     stored.say(SESSIONS[:1])

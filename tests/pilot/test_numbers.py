@@ -2,8 +2,6 @@
 
 import os
 import re
-import subprocess
-import sys
 import time
 from pathlib import Path
 from typing import Any
@@ -11,7 +9,7 @@ from typing import Any
 from bozintar.processes import HOST
 
 from .field import GATEWAYS
-from .parts import PILOT, Pilot
+from .parts import PILOT, Pilot, run
 
 # a line of Prometheus' text format that has a number
 SAMPLE = re.compile(r'([a-zA-Z_:][a-zA-Z0-9_:]*)(\{[a-z]+="(?:[^"\\\n]|\\["\\n])*"\})? (\S+)')
@@ -25,8 +23,10 @@ last_copy_00000000000000B2 3500
 odd a"b\\c
 """
 # lines of a status that alerts speak of
-LINES = ("gateways", "applications", "made", "dropped", "faulted", "taken_over", "silent")
-LINES += ("devices", "slots", "waiting", "longest_sync_us", f"last_copy_{GATEWAYS[0]}")
+LINES = [
+    *("gateways", "applications", "made", "dropped", "faulted", "taken_over", "silent", "devices"),
+    *("slots", "waiting", "longest_sync_us", f"last_copy_{GATEWAYS[0]}"),
+]
 DUE = {
     "lnsd_up": 1.0,
     "lnsd_listening": 1.0,
@@ -60,9 +60,7 @@ def samples(text: str) -> dict[str, float]:
 
 def metrics(*words: Any) -> tuple[int, str, str]:
     """Runs pilot/metrics."""
-    program = [sys.executable, PILOT / "metrics", *words]
-    ended = subprocess.run(program, capture_output=True, text=True, timeout=60, check=False)
-    return ended.returncode, ended.stdout, ended.stderr
+    return run("metrics", *words, timeout=60)
 
 
 def played(folder: Path, script: str) -> str:
@@ -73,7 +71,7 @@ def played(folder: Path, script: str) -> str:
     return str(file)
 
 
-def test_numbers_of_a_server(pilot: Pilot):
+def test_numbers_of_a_server(pilot: Pilot) -> None:
     """The numbers of a server that runs, printed or in a file, and of one that has ended."""
     words = (pilot.program.store, "--lnsd", pilot.program.path)
     status, text, said = metrics(*words)
@@ -87,13 +85,13 @@ def test_numbers_of_a_server(pilot: Pilot):
     assert samples(metrics(*words)[1]) == {"lnsd_up": 0}
 
 
-def test_numbers_of_a_later_server(tmp_path: Path):
+def test_numbers_of_a_later_server(tmp_path: Path) -> None:
     """Lines of a status that this version doesn't know are numbers too."""
     program = played(tmp_path, f"printf '%s' '{STATUS}'")
     assert samples(metrics("store", "--lnsd", program)[1]) == DUE
 
 
-def test_no_program():
+def test_no_program() -> None:
     """There is no lnsd: one line, and no numbers."""
     status, _, said = metrics("store", "--lnsd", "/nowhere/lnsd")
     assert (status, said.count("\n")) == (1, 1)
@@ -127,14 +125,14 @@ def of_bridge(pilot: Pilot, name: str) -> set[str]:
     return set(samples(Path(file).read_text(encoding="utf-8")))
 
 
-def test_alerts(pilot: Pilot, tmp_path: Path):
+def test_alerts(pilot: Pilot, tmp_path: Path) -> None:
     """Each alert speaks of numbers that there are."""
     pilot.broker().start("running")
     found = of_metrics(tmp_path).union(*(of_bridge(pilot, name) for name in BRIDGES))
     assert set(ALERTS) <= found, "names that alerts use, and that are numbers"
 
 
-def test_copied_counts(tmp_path: Path):
+def test_copied_counts(tmp_path: Path) -> None:
     """Counts of bridges are copied as old as they are; a link isn't followed, nor is a pipe waited
     for; copies of bridges that have ended go, and nothing else does."""
     run, to = tmp_path / "run", tmp_path / "out"
@@ -160,10 +158,9 @@ def test_copied_counts(tmp_path: Path):
     assert (to / due[0]).read_text(encoding="utf-8") == "new 1\n"
 
 
-def test_ends_of_certificates(tmp_path: Path):
+def test_ends_of_certificates(tmp_path: Path) -> None:
     """When certificates end; one that can't be read has ended, and no folder is none."""
-    words = [sys.executable, PILOT / "secure/certificates", tmp_path, "authority", "--days", "10"]
-    subprocess.run(words, capture_output=True, check=True)
+    assert run("secure/certificates", tmp_path, "authority", "--days", "10")[0] == 0
     (tmp_path / "none.crt").write_text("no certificate", encoding="utf-8")
     words = ["--certificates", tmp_path, "--certificates", "/nowhere"]
     said = metrics("store", "--lnsd", "/bin/false", *words)[1].splitlines()

@@ -1,6 +1,8 @@
 """Rows of what is translated between packet forwarders and the network, each value by Semtech's
 PROTOCOL.TXT and by docs/FORMATS.md."""
 
+from typing import Any
+
 import pytest
 from bozintar import oracle, wire
 from bozintar.fields import Wrong
@@ -15,7 +17,7 @@ EUI = bytes.fromhex("AA555A0000000101")
 # of PROTOCOL.TXT: a frame of 32 bytes, without padding
 DATA = "ysgRl452xNLep9S1NTIg2lomKDxUgn3DJ7DE+b00Ass"
 PAYLOAD = bytes.fromhex("cac811978e76c4d2dea7d4b5353220da5a26283c54827dc327b0c4f9bd3402cb")
-HEARD = {
+HEARD: dict[str, Any] = {
     "tmst": 3316387610,
     "chan": 0,
     "rfch": 0,
@@ -33,7 +35,7 @@ DEEP = b"[" * 60000
 HEAD = b"\x02\x12\x34"
 
 # of a gateway of three antennas, two of which heard it as well as each other
-ANTENNAS = {
+ANTENNAS: dict[str, Any] = {
     "rssi": ...,
     "lsnr": ...,
     "rsig": [
@@ -43,7 +45,7 @@ ANTENNAS = {
     ],
 }
 # what a forwarder says of a frame: what differs from the one above, and the fields of the copy
-RXPK = (
+RXPK: tuple = (
     ({}, (863009810, 2, 22, -38, 3316387610)),
     ({"data": DATA + "="}, (863009810, 2, 22, -38, 3316387610)),
     ({"lsnr": -19.8, "rssi": -119.6}, (863009810, 2, -79, -120, 3316387610)),
@@ -94,7 +96,7 @@ DOWNLINKS = (
 )
 
 # a datagram, and what is answered at once
-DATAGRAMS = (
+DATAGRAMS: tuple = (
     (HEAD + b"\x00" + EUI + b'{"stat":{}}', HEAD + b"\x01"),
     (HEAD + b"\x02" + EUI, HEAD + b"\x04"),
     (b"\x01\x12\x34\x02" + EUI, b"\x01\x12\x34\x04"),
@@ -109,7 +111,7 @@ DATAGRAMS = (
 )
 
 # what a forwarder says of a downlink
-ACKS = (
+ACKS: tuple = (
     (b"", "NONE"),
     (b"\0", "NONE"),
     (b'{"txpk_ack":{"error":"NONE"}}', "NONE"),
@@ -123,7 +125,7 @@ ACKS = (
 )
 
 # the texts of PUSH_DATA, and how many frames are in them
-TEXTS = (
+TEXTS: tuple = (
     (b'{"rxpk":[{},{}]}', 2),
     (b'{"rxpk":[{}]}\0', 1),
     (b'{"stat":{"rxnb":2}}', 0),
@@ -148,7 +150,7 @@ CLOCKS = (
 )
 
 
-def copied(changes: dict):
+def copied(changes: dict) -> Any:
     """What is counted, or the fields of a copy; its payload and its bytes are compared here."""
     said = {name: value for name, value in {**HEARD, **changes}.items() if value is not ...}
     heard = gwmp.frame_in(EUI.hex().upper(), said)
@@ -158,7 +160,7 @@ def copied(changes: dict):
     return how if heard.message() == due else heard.message()
 
 
-def told(content: bytes):
+def told(content: bytes) -> list:
     """What a forwarder is told of each window of a downlink."""
     downlink = wire.Downlink.read(content)
     txpk = [
@@ -182,7 +184,7 @@ DUE = (
 
 
 @pytest.mark.parametrize("delay, moment, is_due", DUE)
-def test_window_is_due(delay, moment, is_due):
+def test_window_is_due(delay: Any, moment: Any, is_due: Any) -> None:
     """Whether a window is still to come."""
     clock = clocks.Clock()
     assert not clock.is_due(0, delay, moment), "of a clock of which nothing came"
@@ -193,51 +195,54 @@ def test_window_is_due(delay, moment, is_due):
 class Slow:
     """A link's network that doesn't read while `size` bytes wait for it."""
 
-    def __init__(self):
+    def __init__(self) -> None:
         self.size, self.said, self.transport = 0, b"", self
 
-    def get_write_buffer_size(self):
+    def get_write_buffer_size(self) -> int:
+        """As of a transport."""
         return self.size
 
-    def is_closing(self):
+    def is_closing(self) -> bool:
+        """As of a transport."""
         return False
 
-    def write(self, said):
+    def write(self, said: bytes) -> None:
+        """As of a transport."""
         self.said += said
 
 
 @table("changes, due", RXPK)
-def test_heard(changes, due):
+def test_heard(changes: Any, due: Any) -> None:
     """A frame that a forwarder heard: the fields of its copy, or what is counted."""
     assert outcome(copied, changes) == due
 
 
 @table("text, first, second", DOWNLINKS)
-def test_downlink(text, first, second):
+def test_downlink(text: str, first: Any, second: Any) -> None:
     """What a forwarder is told of each window."""
     assert told(DOWN + bytes.fromhex(text) + PAYLOAD) == [first, second]
 
 
 @table("data, due", DATAGRAMS)
-def test_datagram(data, due):
+def test_datagram(data: bytes, due: Any) -> None:
     """What is answered to a datagram at once."""
     assert outcome(lambda: Datagram.read(data).acknowledgement()) == due
 
 
 @table("text, due", ACKS)
-def test_acknowledgement(text, due):
+def test_acknowledgement(text: bytes, due: Any) -> None:
     """What a forwarder says of a downlink."""
     assert outcome(gwmp.error_in, text) == due
 
 
 @table("text, due", TEXTS)
-def test_frames_of_a_datagram(text, due):
+def test_frames_of_a_datagram(text: bytes, due: Any) -> None:
     """How many frames PUSH_DATA has."""
     assert outcome(lambda: len(gwmp.heard_in(text))) == due
 
 
 @table("stamps, due", CLOCKS)
-def test_clock_begins_anew(stamps, due):
+def test_clock_begins_anew(stamps: Any, due: Any) -> None:
     """How often a clock began anew."""
     clock, moment = clocks.Clock(), 1000.0
     for after, stamp in stamps:
@@ -246,10 +251,11 @@ def test_clock_begins_anew(stamps, due):
     assert clock.begun_anew == due
 
 
-def test_slow_network():
+def test_slow_network() -> None:
     """What is heard while the network doesn't read is handed in once it does, and before others."""
     link = Link("one", Address("h", 1), oracle.message(b""))
-    slow = link.writer = Slow()
+    slow: Any = Slow()
+    link.writer = slow
     for size, said in ((0, b"1"), (10**6, b"2"), (10**6, b"3"), (0, b"4")):
         slow.size = size
         is_now = link.say_soon(wire.framed(said))

@@ -3,6 +3,8 @@ public texts of its events and by docs/FORMATS.md."""
 
 import json
 
+from typing import Any
+
 from bozintar import wire
 from bozintar.fields import Wrong
 from bridges import gateway_events
@@ -11,7 +13,7 @@ from .rows import outcome, table
 
 STATION = bytes.fromhex("0016c001f153a14c")
 # of ChirpStack's documentation of its gateway bridge's events
-EVENT = {
+EVENT: dict[str, Any] = {
     "phyPayload": "AAEBAQEBAQEBAQEBAQEBAQGXFgz1VyE=",
     "txInfo": {
         "frequency": 868100000,
@@ -36,7 +38,7 @@ JOIN = bytes.fromhex("00010101010101010101010101010101" "0197160cf55721")
 CONTEXT = bytes.fromhex("1adcc6c3")
 
 # what differs from that event, in txInfo, its modulation and rxInfo; and what is read
-EVENTS = (
+EVENTS: tuple = (
     ({}, {}, {}, (868100000, 5, 37, -57, CONTEXT)),
     ({}, {"spreadingFactor": 12}, {"snr": -20, "rssi": -130}, (868100000, 0, -80, -130, CONTEXT)),
     ({"frequency": 867100000}, {}, {"crcStatus": 2}, (867100000, 5, 37, -57, CONTEXT)),
@@ -63,8 +65,12 @@ EVENTS = (
     ({}, {}, {"context": "*"}, Wrong),
     ({}, {}, {"context": "A" * 100}, Wrong),
 )
-LORA_DOWN = {"bandwidth": 125000, "codeRate": "CR_4_5", "polarizationInversion": True}
-FIRST = {
+LORA_DOWN: dict[str, Any] = {
+    "bandwidth": 125000,
+    "codeRate": "CR_4_5",
+    "polarizationInversion": True,
+}
+FIRST: dict = {
     "phyPayload": "AAEBAQEBAQEBAQEBAQEBAQGXFgz1VyE=",
     "txInfo": {
         "frequency": 868100000,
@@ -74,7 +80,7 @@ FIRST = {
         "context": "GtzGww==",
     },
 }
-SECOND = {
+SECOND: dict = {
     "phyPayload": "AAEBAQEBAQEBAQEBAQEBAQGXFgz1VyE=",
     "txInfo": {
         "frequency": 869525000,
@@ -86,7 +92,7 @@ SECOND = {
 }
 # a downlink's content behind its gateway, and the items of the command
 ORDERS = (("00000007 33BE27A0 05 05 06", [FIRST, SECOND]), ("00000007 33BE27A0 05 05 00", [FIRST]))
-STATUS_TEXTS = (
+STATUS_TEXTS: tuple = (
     (b'{"items":[{"status":"TOO_LATE"},{"status":"OK"}]}', ["TOO_LATE", "OK"]),
     (b'{"items":[{}]}', ["IGNORED"]),
     (b"{}", []),
@@ -95,7 +101,7 @@ STATUS_TEXTS = (
 )
 
 
-def heard(tx: dict, lora: dict, rx: dict):
+def heard(tx: dict, lora: dict, rx: dict) -> Any:
     """What is read of an event."""
     modulation = {"lora": {**EVENT["txInfo"]["modulation"]["lora"], **lora}}
     tx = {**EVENT["txInfo"], "modulation": modulation, **tx}
@@ -108,13 +114,13 @@ def heard(tx: dict, lora: dict, rx: dict):
 
 
 @table("changes, due", [((tx, lora, rx), due) for tx, lora, rx, due in EVENTS])
-def test_event_up(changes, due):
+def test_event_up(changes: Any, due: Any) -> None:
     """A frame that a gateway heard: the fields of its copy, or what is counted."""
     assert outcome(heard, *changes) == due
 
 
 @table("text, items", ORDERS)
-def test_command_down(text, items):
+def test_command_down(text: str, items: Any) -> None:
     """What a gateway is told of a downlink."""
     content = b"\x11" + STATION + bytes.fromhex(text) + JOIN
     command = gateway_events.command(wire.Downlink.read(content), 12345, CONTEXT, (16, 27))
@@ -123,12 +129,12 @@ def test_command_down(text, items):
 
 
 @table("text, due", STATUS_TEXTS)
-def test_event_ack(text, due):
+def test_event_ack(text: bytes, due: Any) -> None:
     """What became of a downlink."""
     assert outcome(gateway_events.statuses, text) == due
 
 
-def test_command_topic():
+def test_command_topic() -> None:
     """The topic of a gateway's commands."""
     topic = gateway_events.command_topic("eu868", STATION.hex().upper())
     assert topic == "eu868/gateway/0016c001f153a14c/command/down"

@@ -12,7 +12,7 @@ from .stations import ByStations
 DATA_RATES = range(6)
 
 
-def test_each_data_rate(by_stations: ByStations):
+def test_each_data_rate(by_stations: ByStations) -> None:
     """A reading in each data rate, which comes twice and is stored once."""
     for place, meter in enumerate(by_stations.meters):
         frame, mark = meter.reads(), meter.awaited
@@ -25,7 +25,7 @@ def test_each_data_rate(by_stations: ByStations):
 
 
 @pytest.mark.parametrize("meters", [1])
-def test_second_window(by_stations: ByStations):
+def test_second_window(by_stations: ByStations) -> None:
     """What a gateway is told of RX1, and of RX2 after it."""
     first, meter = by_stations.air.gateways[0], by_stations.meters[0]
     first.errors.append("TOO_LATE")
@@ -42,7 +42,7 @@ def test_second_window(by_stations: ByStations):
 
 
 @pytest.mark.parametrize("meters", [1])
-def test_wrong_events(by_stations: ByStations):
+def test_wrong_events(by_stations: ByStations) -> None:
     """What isn't in the format is passed over and counted, and a reading comes all the same."""
     first = by_stations.air.gateways[0]
     good = first.up(bytes(12), CHANNELS[0], 5, 1, -90)

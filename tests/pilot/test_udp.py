@@ -18,7 +18,7 @@ LATE = "TOO_LATE"
 class Linked(Field):
     """A field with an application that has a link of its own."""
 
-    def __init__(self, pilot: Pilot, meters: int):
+    def __init__(self, pilot: Pilot, meters: int) -> None:
         super().__init__(pilot, meters)
         self.application = Application(pilot.address, APPLICATION)
 
@@ -48,7 +48,7 @@ def field(pilot: Pilot, meters: int) -> Iterator[Linked]:
     made.application.close()
 
 
-def test_each_data_rate(field: Linked):
+def test_each_data_rate(field: Linked) -> None:
     """A reading in each data rate and on each channel, and what a gateway is told then."""
     for place, meter in enumerate(field.meters):
         is_well = field.reading(meter, data_rate=place, hz=CHANNELS[place])
@@ -62,13 +62,14 @@ def test_each_data_rate(field: Linked):
 
 
 @pytest.mark.parametrize("meters", [1])
-def test_short_pause(field: Linked):
+def test_short_pause(field: Linked) -> None:
     """The server starts again: what is heard meanwhile comes out once the link is there."""
     field.application.close()
     field.pilot.restart_server()
     meter = field.meters[0]
     field.send(meter.reads(confirmed=False))
     mark = meter.awaited
+    assert mark
     field.application = Application(field.pilot.address, APPLICATION)
     field.air.go_on(3)
     words = field.application.hears().split(" ")[:4]
@@ -76,7 +77,7 @@ def test_short_pause(field: Linked):
 
 
 @pytest.mark.parametrize("meters", [2])
-def test_lost_window(field: Linked):
+def test_lost_window(field: Linked) -> None:
     """RX1 is missed, and RX2 is taken; another fault isn't tried again."""
     first = field.air.gateways[0]
     first.errors.append(LATE)
@@ -92,7 +93,7 @@ def test_lost_window(field: Linked):
 
 
 @pytest.mark.parametrize("meters", [3])
-def test_another_clock(field: Linked):
+def test_another_clock(field: Linked) -> None:
     """A forwarder starts again, with a clock from the beginning; another has another port."""
     first, second, third = field.air.gateways
     first.restart(begins=500)

@@ -14,7 +14,7 @@ def chance(seed: int) -> random.Random:
     return random.Random(seed)
 
 
-def test_copies(chance):
+def test_copies(chance: random.Random) -> None:
     """Copies of frames."""
     for _ in range(ROUNDS):
         eui, frame = chance.randbytes(8).hex().upper(), chance.randbytes(chance.randrange(1, 256))
@@ -29,7 +29,7 @@ def test_copies(chance):
         assert came == oracle.copy_message(eui, how, frame)
 
 
-def test_downlinks(chance):
+def test_downlinks(chance: random.Random) -> None:
     """Downlinks, with RX2 and without."""
     for _ in range(ROUNDS):
         eui, frame = chance.randbytes(8).hex().upper(), chance.randbytes(chance.randrange(1, 256))
@@ -45,7 +45,7 @@ def test_downlinks(chance):
         assert wire.Downlink.read(content) == due
 
 
-def test_contents(chance):
+def test_contents(chance: random.Random) -> None:
     """Messages of any length, which come in pieces."""
     for _ in range(ROUNDS):
         contents = [chance.randbytes(chance.randrange(701)) for _ in range(chance.randrange(5))]
@@ -55,7 +55,7 @@ def test_contents(chance):
 
 
 @pytest.mark.parametrize("eui", ("0000000000000000", "FFFFFFFFFFFFFFFF", "0016C001F153A14C"))
-def test_gateway_and_device(eui):
+def test_gateway_and_device(eui: str) -> None:
     """A gateway's greeting, a request and a line about a device."""
     assert wire.gateway_greeting(eui) == oracle.message(b"\0" + bytes.fromhex(eui))
     assert wire.request(f"mac {eui} 06") == oracle.message(b"\3mac " + eui.encode() + b" 06")
@@ -63,7 +63,7 @@ def test_gateway_and_device(eui):
 
 
 @pytest.mark.parametrize("number", range(16))
-def test_application_greeting(number):
+def test_application_greeting(number: int) -> None:
     """An application's greeting."""
     assert wire.application_greeting(number) == oracle.message(bytes((2, number)))
 

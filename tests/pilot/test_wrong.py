@@ -19,7 +19,7 @@ from bozintar.wire import Downlink, Frames, NoMessage, line_of
 from bridges.application_events import Translator
 
 from .field import GATEWAYS
-from .parts import PILOT, Pilot
+from .parts import PILOT, Pilot, run
 from .played import nobody_reads
 from .rows import table
 
@@ -121,17 +121,14 @@ PROGRAMS = sorted({name for name, _, _ in WORDS})
 
 def ended(name: str, *said: str) -> tuple[int | None, str, str]:
     """How a program ends; its status is None if it goes on."""
-    program = [sys.executable, PILOT / name, *said]
-    how: Any = {"stdin": subprocess.DEVNULL, "capture_output": True, "text": True}
     try:
-        came = subprocess.run(program, timeout=10, check=False, **how)
+        return run(name, *said, stdin=subprocess.DEVNULL, timeout=10)
     except subprocess.TimeoutExpired:
         return None, "", ""
-    return came.returncode, came.stdout, came.stderr
 
 
 @table("said, due", [(" ".join((name, *said)), due) for name, said, due in WORDS])
-def test_wrong_words(said: str, due: int):
+def test_wrong_words(said: str, due: int) -> None:
     """Wrong words and files: one line, and no traceback."""
     status, _, told = ended(*said.split(" "))
     assert (status, len(told.strip().splitlines())) == (due, 1), told
@@ -139,7 +136,7 @@ def test_wrong_words(said: str, due: int):
 
 
 @pytest.mark.parametrize("name", PROGRAMS)
-def test_help(name: str):
+def test_help(name: str) -> None:
     """--help says something."""
     status, out, told = ended(name, "--help")
     assert (status, told) == (0, "")
@@ -148,26 +145,26 @@ def test_help(name: str):
 
 @pytest.mark.parametrize("to", ("a full disk", "a pipe that nobody reads"))
 @pytest.mark.parametrize("name", ("applications-mqtt", "gateways-mqtt", "gateways-udp", "metrics"))
-def test_help_that_nobody_reads(name: str, to: str):
+def test_help_that_nobody_reads(name: str, to: str) -> None:
     """How --help ends if its output can't be written, buffered as it is by itself."""
     output, due = (open("/dev/full", "w"), (1, 1)) if "disk" in to else (nobody_reads(), (141, 0))
     environment = {name: of for name, of in os.environ.items() if name != "PYTHONUNBUFFERED"}
     how: Any = {"stdout": output, "stderr": subprocess.PIPE, "text": True, "env": environment}
     with output:
-        came = subprocess.run([sys.executable, PILOT / name, "--help"], check=False, **how)
+        came = subprocess.run([sys.executable, str(PILOT / name), "--help"], check=False, **how)
     assert (came.returncode, came.stderr.count("\n")) == due
 
 
 class Stranger:
     """A network that says what none does."""
 
-    def __init__(self, seed: int):
+    def __init__(self, seed: int) -> None:
         self.chance, self.links = random.Random(seed), 0
         self.listener = socket.create_server((HOST, 0))
         self.port = self.listener.getsockname()[1]
         threading.Thread(target=self.serve, daemon=True).start()
 
-    def serve(self):
+    def serve(self) -> None:
         """Greets each link with one of the strange things, in turn, and noise."""
         while True:
             connection, _ = self.listener.accept()
@@ -192,7 +189,7 @@ def strangers(seed: int) -> Iterator[list[Stranger]]:
         stranger.listener.close()
 
 
-def test_strange_peers(pilot: Pilot, strangers: list[Stranger]):
+def test_strange_peers(pilot: Pilot, strangers: list[Stranger]) -> None:
     """Networks that say strange things: both bridges go on, and link again."""
     pilot.broker().start("running")
     networks = [("--network", f"{HOST}:{stranger.port}") for stranger in strangers]
@@ -217,7 +214,7 @@ def read_line(content: bytes) -> Any:
 
 @pytest.mark.parametrize("read", (Downlink.read, read_line), ids=("a downlink", "a line"))
 @table("said, number", [(said, number) for number, said in enumerate(STRANGE)])
-def test_strange_content(said: bytes, number: int, read: Callable[[bytes], Any]):
+def test_strange_content(said: bytes, number: int, read: Callable[[bytes], Any]) -> None:
     """A strange thing, read by what both bridges read with: at most a fault that they know of."""
     try:
         for content in Frames().feed(said):

@@ -36,7 +36,7 @@ class Client:
 class Dashboard(Client):
     """A client of the broker that notes the events that come, by their kinds."""
 
-    def __init__(self, port: int, topic: str = EVENTS):
+    def __init__(self, port: int, topic: str = EVENTS) -> None:
         self.events: list[tuple[str, str, Any]] = []
         self.unread = 0
         self.client = client("dashboard")
@@ -73,13 +73,13 @@ class Dashboard(Client):
 class Whole(Field):
     """All of a pilot: a field, the server, a broker, both bridges, a database."""
 
-    def __init__(self, pilot: Pilot, meters: int):
+    def __init__(self, pilot: Pilot, meters: int) -> None:
         self.broker = pilot.broker().start("running")
         super().__init__(pilot, meters)
         rows = ["DevEUI,JoinEUI,AppKey,Offset,Delay", *(meter.row() for meter in self.meters)]
         self.file = pilot.file("devices.csv", "\n".join(rows) + "\n")
         broker = ("--broker", f"{HOST}:{pilot.broker_port}", "--application", APPLICATION)
-        counts = ("--devices", self.file, "--counts", pilot.file("applications.prom"))
+        counts: tuple = ("--devices", self.file, "--counts", pilot.file("applications.prom"))
         # so few that lines wait in the link too if the broker is away
         counts += ("--room", 50)
         words = ("--network", pilot.network, *broker, *counts)
