@@ -4,6 +4,7 @@ last line, 'N passed, M failed'."""
 import os
 import signal
 import sys
+import tempfile
 from collections.abc import Iterator
 from pathlib import Path
 from types import FrameType
@@ -71,9 +72,10 @@ def program(pytestconfig: pytest.Config) -> str:
 
 
 @pytest.fixture
-def folder(tmp_path: Path) -> Iterator[Path]:
-    """An empty folder."""
-    yield tmp_path
+def folder() -> Iterator[Path]:
+    """An empty folder, which is removed."""
+    with tempfile.TemporaryDirectory(prefix="bozintar-") as made:
+        yield Path(made)
 
 
 def pytest_runtest_protocol(item: pytest.Item, nextitem: pytest.Item | None) -> bool:
@@ -98,10 +100,9 @@ def add_repetition(item: pytest.Item, report: pytest.TestReport) -> None:
     """Says how a random trial that failed is done again."""
     params: dict[str, Any] = getattr(getattr(item, "callspec", None), "params", {})
     if report.failed and "seed" in params:
-        name = item.nodeid.replace(f"seed{params['seed']}", f"seed{params['seed']}")
         program = item.config.getoption("program")
-        words = f"/usr/bin/python3 -m pytest '{name}' --program {program} --seed {params['seed']}"
-        report.sections.append(("to repeat it", words))
+        words = f"'{item.nodeid}' --program {program} --seed {params['seed']}"
+        report.sections.append(("to repeat it", f"/usr/bin/python3 -m pytest {words}"))
 
 
 def pytest_terminal_summary(terminalreporter: Any) -> None:

@@ -1,6 +1,7 @@
 """The parts around which the pilot's trials are made. Each is ended and its folder removed at the
 end of its trial, whatever that is; a traceback of one of its programs is a failure."""
 
+import tempfile
 from collections.abc import Iterator
 
 import pytest
@@ -76,9 +77,10 @@ def by_stations(pilot: Pilot, meters: int) -> Iterator[ByStations]:
 
 
 @pytest.fixture(scope="session")
-def certificates(tmp_path_factory: pytest.TempPathFactory) -> Certificates:
+def certificates() -> Iterator[Certificates]:
     """Certificates of all kinds."""
-    return Certificates(str(tmp_path_factory.mktemp("certificates")))
+    with tempfile.TemporaryDirectory(prefix="bozintar-") as folder:
+        yield Certificates(folder)
 
 
 @pytest.fixture

@@ -94,7 +94,7 @@ def test_names_of_a_certificate(subject: str, names: set[str]) -> None:
 
 
 @pytest.mark.timed
-def test_slow_greeting(tmp_path: Path) -> None:
+def test_slow_greeting(folder: Path) -> None:
     """A client that says a byte of its greeting now and then is closed ten seconds after its first
     one, and nothing of it is passed on."""
     ours, theirs = socket.socketpair()
@@ -103,7 +103,7 @@ def test_slow_greeting(tmp_path: Path) -> None:
         str(PILOT / "secure/door"),
         f"{HOST}:1",
         "--log",
-        str(tmp_path / "log"),
+        str(folder / "log"),
     ]
     environment = {**os.environ, "SSL_CLIENT_DN": f"CN={PLACE}"}
     with ours, subprocess.Popen(words, stdin=theirs.fileno(), env=environment) as door:
@@ -118,7 +118,7 @@ def test_slow_greeting(tmp_path: Path) -> None:
                 pass
         assert door.wait(PATIENCE) == 1
     assert time.monotonic() - begun < PATIENCE + PACE
-    assert "it doesn't greet" in (tmp_path / "log").read_text(encoding="utf-8")
+    assert "it doesn't greet" in (folder / "log").read_text(encoding="utf-8")
 
 
 @pytest.fixture(scope="module")

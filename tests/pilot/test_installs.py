@@ -99,9 +99,9 @@ def mode_of(file: Path) -> int:
 
 
 @pytest.fixture(params=(0o022, 0o077), ids=("umask 022", "umask 077"))
-def clone(request: pytest.FixtureRequest, tmp_path: Path) -> Clone:
+def clone(request: pytest.FixtureRequest, folder: Path) -> Clone:
     """A clone, made under an umask, that is installed."""
-    made = Clone(tmp_path, request.param)
+    made = Clone(folder, request.param)
     ended = made.install()
     assert (ended.returncode, ended.stderr) == (0, "")
     return made

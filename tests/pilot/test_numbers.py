@@ -85,9 +85,9 @@ def test_numbers_of_a_server(pilot: Pilot) -> None:
     assert samples(metrics(*words)[1]) == {"lnsd_up": 0}
 
 
-def test_numbers_of_a_later_server(tmp_path: Path) -> None:
+def test_numbers_of_a_later_server(folder: Path) -> None:
     """Lines of a status that this version doesn't know are numbers too."""
-    program = played(tmp_path, f"printf '%s' '{STATUS}'")
+    program = played(folder, f"printf '%s' '{STATUS}'")
     assert samples(metrics("store", "--lnsd", program)[1]) == DUE
 
 
@@ -106,11 +106,11 @@ BRIDGES = {
 }
 
 
-def of_metrics(tmp_path: Path) -> set[str]:
+def of_metrics(folder: Path) -> set[str]:
     """The names of the numbers that pilot/metrics gives."""
-    program = played(tmp_path, "\n".join(f"echo {line} 1" for line in LINES))
-    (tmp_path / "none.crt").write_text("no certificate", encoding="utf-8")
-    text = metrics("store", "--lnsd", program, "--certificates", tmp_path)[1]
+    program = played(folder, "\n".join(f"echo {line} 1" for line in LINES))
+    (folder / "none.crt").write_text("no certificate", encoding="utf-8")
+    text = metrics("store", "--lnsd", program, "--certificates", folder)[1]
     return {name.split("{")[0] for name in samples(text)}
 
 
@@ -125,17 +125,17 @@ def of_bridge(pilot: Pilot, name: str) -> set[str]:
     return set(samples(Path(file).read_text(encoding="utf-8")))
 
 
-def test_alerts(pilot: Pilot, tmp_path: Path) -> None:
+def test_alerts(pilot: Pilot, folder: Path) -> None:
     """Each alert speaks of numbers that there are."""
     pilot.broker().start("running")
-    found = of_metrics(tmp_path).union(*(of_bridge(pilot, name) for name in BRIDGES))
+    found = of_metrics(folder).union(*(of_bridge(pilot, name) for name in BRIDGES))
     assert set(ALERTS) <= found, "names that alerts use, and that are numbers"
 
 
-def test_copied_counts(tmp_path: Path) -> None:
+def test_copied_counts(folder: Path) -> None:
     """Counts of bridges are copied as old as they are; a link isn't followed, nor is a pipe waited
     for; copies of bridges that have ended go, and nothing else does."""
-    run, to = tmp_path / "run", tmp_path / "out"
+    run, to = folder / "run", folder / "out"
     to.mkdir()
     for name in ("applications-mqtt-4", "other"):
         (to / f"{name}.prom").write_text("old 1\n", encoding="utf-8")
@@ -158,15 +158,15 @@ def test_copied_counts(tmp_path: Path) -> None:
     assert (to / due[0]).read_text(encoding="utf-8") == "new 1\n"
 
 
-def test_ends_of_certificates(tmp_path: Path) -> None:
+def test_ends_of_certificates(folder: Path) -> None:
     """When certificates end; one that can't be read has ended, and no folder is none."""
-    assert run("secure/certificates", tmp_path, "authority", "--days", "10")[0] == 0
-    (tmp_path / "none.crt").write_text("no certificate", encoding="utf-8")
-    words = ["--certificates", tmp_path, "--certificates", "/nowhere"]
+    assert run("secure/certificates", folder, "authority", "--days", "10")[0] == 0
+    (folder / "none.crt").write_text("no certificate", encoding="utf-8")
+    words = ["--certificates", folder, "--certificates", "/nowhere"]
     said = metrics("store", "--lnsd", "/bin/false", *words)[1].splitlines()
     came = dict(line.rsplit(" ", 1) for line in said if not line.startswith("#"))
     name = 'pilot_certificate_end_seconds{file="%s/%s.crt"}'
-    due = {name % (tmp_path, authority) for authority in ("ca", "none")}
+    due = {name % (folder, authority) for authority in ("ca", "none")}
     assert set(came) == {"lnsd_up"} | due
     ends = sorted(int(float(came[name])) for name in due)
     assert ends[0] == 0, "of what is none"
