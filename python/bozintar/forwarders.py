@@ -19,9 +19,11 @@ SPREADING = {rate: f"SF{12 - rate}BW125" for rate in range(6)}
 
 
 class Forwarder:
-    """A gateway with a packet forwarder, whose clock begins at any microsecond."""
+    """A gateway with a packet forwarder, whose clock begins at any microsecond. Like Semtech's it
+    has a socket for what it heard, and another one by which it asks for downlinks."""
 
-    socket: socket.socket
+    up: socket.socket | None = None
+    down: socket.socket
 
     def __init__(self, eui: str, port: int, version: int = 2, begins: int = 0, host: str = HOST):
         self.eui, self.version, self.server = bytes.fromhex(eui), version, (host, port)
@@ -34,12 +36,27 @@ class Forwarder:
         self.move()
 
     def move(self) -> None:
-        """It has another port from now on."""
-        if hasattr(self, "socket"):
-            self.socket.close()
-        self.socket = socket.socket(socket.AF_INET, socket.SOCK_DGRAM)
-        self.socket.connect(self.server)
+        """It has other ports from now on."""
+        self.close()
+        self.up, self.down = (socket.socket(socket.AF_INET, socket.SOCK_DGRAM) for _ in range(2))
+        for own in self.sockets:
+            own.connect(self.server)
         self.next_pull = 0.0
+
+    @property
+    def sockets(self) -> list[socket.socket]:
+        """Its sockets."""
+        return [self.up, self.down] if self.up else []
+
+    @property
+    def name(self) -> str:
+        """Its EUI."""
+        return self.eui.hex().upper()
+
+    def close(self) -> None:
+        """Closes its sockets."""
+        for own in self.sockets:
+            own.close()
 
     def restart(self, begins: int = 0) -> None:
         """It starts again: another port, and a clock from the beginning."""
@@ -55,8 +72,9 @@ class Forwarder:
         self.token = (self.token + 1) % 65536
         number = self.token if token is None else token
         head = bytes([self.version]) + number.to_bytes(2, "big") + bytes([kind]) + self.eui
+        own = self.up if self.up and kind == 0 else self.down
         try:
-            self.socket.send(head + body)
+            own.send(head + body)
         except ConnectionRefusedError:
             pass  # nobody listens there, for example when the bridge is killed
 
@@ -94,10 +112,10 @@ class Forwarder:
             self.say(2)
             self.next_pull = time.monotonic() + PULLS_EVERY
 
-    def read(self) -> bytes | None:
-        """Reads a datagram; a frame that it sends then."""
+    def read(self, own: socket.socket) -> bytes | None:
+        """Reads a datagram of one of its sockets; a frame that it sends then."""
         try:
-            data = self.socket.recv(65536)
+            data = own.recv(65536)
         except ConnectionRefusedError:
             return None
         if data[3] in (1, 4):
@@ -117,8 +135,8 @@ class Forwarder:
 
 
 class Air:
-    """What gateways and meters have between them. A gateway has `socket`, `look`, `read` and
-    `hears`."""
+    """What gateways and meters have between them. A gateway has `name`, `sockets`, `look`, `read`
+    and `hears`."""
 
     def __init__(self, gateways: Iterable[Any], meters: Iterable[Meter]):
         self.gateways, self.meters = list(gateways), list(meters)
@@ -133,14 +151,14 @@ class Air:
                 return False
             for gateway in self.gateways:
                 gateway.look()
-            sockets = {gateway.socket: gateway for gateway in self.gateways}
-            for ready in select.select(list(sockets), [], [], min(left, 0.05))[0]:
-                frame = sockets[ready].read()
+            whose = {own: gateway for gateway in self.gateways for own in gateway.sockets}
+            for ready in select.select(list(whose), [], [], min(left, 0.05))[0]:
+                frame = whose[ready].read(ready)
                 if frame:
-                    self.carry(frame)
+                    self.carry(frame, whose[ready].name)
         return True
 
-    def carry(self, frame: bytes) -> None:
+    def carry(self, frame: bytes, gateway: str) -> None:
         """A frame that a gateway sends, which one meter hears."""
-        if not any(meter.takes(frame) for meter in self.meters):
+        if not any(meter.takes(frame, gateway) for meter in self.meters):
             self.unheard += 1

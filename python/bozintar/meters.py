@@ -1,6 +1,7 @@
 """Meters in the field: what they send, what they hear, and what they know."""
 
 import re
+import time
 from dataclasses import dataclass
 from typing import Any
 
@@ -27,8 +28,25 @@ class Reading:
     counter: int
 
 
+@dataclass(frozen=True)
+class Heard:
+    """A downlink that a meter heard: its session and counter, the counter that the meter heard last
+    before it, the gateway that sent it, and when that was, by our own clock."""
+
+    session: int
+    counter: int
+    last: int
+    gateway: str
+    moment: float
+
+    @property
+    def mark(self) -> tuple[int, int]:
+        """By what it is known."""
+        return self.session, self.counter
+
+
 class Meter(Device):
-    """A meter, with all that it sent and all that was acknowledged to it."""
+    """A meter, with all that it sent and heard, and all that was acknowledged to it."""
 
     def __init__(self, number: int):
         key = aes.encrypt(b"keys of meters  ", number.to_bytes(16, "big"))
@@ -38,7 +56,7 @@ class Meter(Device):
         self.acknowledged: set[Reading] = set()
         self.awaited: Reading | None = None
         self.items: list[bytes] = []
-        self.downlinks: list[tuple[int, int]] = []
+        self.downlinks: list[Heard] = []
 
     def row(self) -> str:
         """Its line of a file of devices."""
@@ -52,8 +70,9 @@ class Meter(Device):
         self.sent[mark], self.awaited = payload, mark
         return frame
 
-    def takes(self, frame: bytes) -> bool:
-        """Hears a frame; whether it is for this meter."""
+    def takes(self, frame: bytes, gateway: str = "") -> bool:
+        """Hears a frame of a gateway; whether it is for this meter. A downlink whose counter isn't
+        above the last one is noted, and ignored as by a device."""
         if frame[0] == 0x20:
             return self.is_let_in(frame)
         if not self.keys or int.from_bytes(frame[1:5], "little") != self.dev_addr:
@@ -62,7 +81,10 @@ class Meter(Device):
         key = self.keys[0]
         if data_mic(key, DOWN, self.dev_addr, counter, frame[:-4]) != frame[-4:]:
             return False
-        self.downlinks.append((self.join_nonce, counter))
+        how = (self.join_nonce, counter, self.last_down, gateway, time.monotonic())
+        self.downlinks.append(Heard(*how))
+        if counter <= self.last_down:
+            return True
         words = self.take_downlink(frame)
         if "ACK" in words and self.awaited:
             self.acknowledged.add(self.awaited)

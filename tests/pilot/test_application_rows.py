@@ -3,10 +3,15 @@ its format: ChirpStack's events and commands (version 4), docs/FORMATS.md."""
 
 import tempfile
 
+from typing import Any
+
+import pytest
 from bozintar.fields import Wrong
 from bridges import devices
 from bridges.application_events import Item, Translator, refusal, status
-from .gateway_rows import outcome
+from bridges.names import Names
+
+from .rows import outcome, table
 
 DEVICE = "0101010101010101"
 INFO = {"applicationId": "3", "devEui": DEVICE}
@@ -24,8 +29,8 @@ UP = {
     "rxInfo": [{"gatewayId": "0016c001f153a14c", "rssi": -36, "snr": 10.5}],
     "txInfo": {"frequency": 867100000, "modulation": {"lora": LORA}},
 }
-ITEM = {"queueItemId": "5", "tag": 5}
-KNOWN = {"queueItemId": "3ac7e3c4", "tag": 9}
+ITEM: dict[str, Any] = {"queueItemId": "5", "tag": 5}
+KNOWN: dict[str, Any] = {"queueItemId": "3ac7e3c4", "tag": 9}
 SPENT = {
     "level": "ERROR",
     "code": "FRAME_COUNTERS_SPENT",
@@ -42,7 +47,7 @@ STATUS = {
 }
 
 # a line of an application, and the event: its kind, and what it says besides whose it is and when
-LINES = (
+LINES: tuple = (
     (f"acked {DEVICE} 5", ("ack", {**ITEM, "acknowledged": True})),
     (f"lost {DEVICE} 9", ("ack", {**KNOWN, "acknowledged": False})),
     (f"queued {DEVICE} 9", ("queued", KNOWN)),
@@ -62,7 +67,7 @@ STATUSES = (
 )
 
 # a command `down`, and the line that is asked
-COMMANDS = (
+COMMANDS: tuple = (
     ('{"devEui":"%s","confirmed":true,"fPort":10,"data":"qrs="}', "queue %s 8 10 c AABB"),
     ('{"fPort":10,"data":"qrs"}', "queue %s 8 10 u AABB"),
     ('{"fPort":255,"object":{},"flushQueue":false}', "queue %s 8 255 u -"),
@@ -80,7 +85,7 @@ COMMANDS = (
 
 KEY = "2B7E151628AED2A6ABF7158809CF4F3C"
 # a file of devices, and what is read: requests, or what is wrong with a line
-FILES = (
+FILES: tuple = (
     (f"{DEVICE},0102030405060708,{KEY}\n", [f"{DEVICE} 0102030405060708 {KEY} 0 1"]),
     (f"{DEVICE};0102030405060708;{KEY.lower()};5;15", [f"{DEVICE} 0102030405060708 {KEY} 5 15"]),
     (
@@ -104,61 +109,103 @@ FILES = (
 )
 
 # a line that refuses, and its code
-REFUSED = (("refused 12", "QUEUE_FULL"), ("refused 99", "REFUSED_99"))
+REFUSED: tuple = (("refused 12", "QUEUE_FULL"), ("refused 99", "REFUSED_99"))
 REFUSED += ((f"refused 12 {LATER}", "QUEUE_FULL"), ("refused 1 2", "REFUSED_1"))
 REFUSED += tuple((line, "REFUSED") for line in ("refused", "refused ", "refused x", "refused x 12"))
 
 
-def translated(line: str):
+def translated(line: str) -> tuple[str, dict]:
     """The kind of a line's event, and what it says besides whose it is and when."""
-    it = Translator(3, {(DEVICE, 9): "3ac7e3c4"}).event(line, TIME)
-    if (it.body.pop("time"), it.body.pop("deviceInfo")) != (TIME, INFO):
-        return "another device"
-    return it.kind, it.body
+    event = Translator(3, {(DEVICE, 9): "3ac7e3c4"}).event(line, TIME)
+    if (event.body.pop("time"), event.body.pop("deviceInfo")) != (TIME, INFO):
+        return "another device", {}
+    return event.kind, event.body
 
 
-def asked(text: str):
+def asked(text: str) -> str:
     """The request of a command."""
     return Item.read(DEVICE, text.encode()).line(8)
 
 
-def read(text: str):
+def read(text: str) -> list[str]:
     """What is read of a file of devices."""
     with tempfile.NamedTemporaryFile() as file:
         file.write(text.encode())
         file.flush()
         found = devices.read(file.name)
-    lines = [it for it in found if isinstance(it, devices.Row)]
-    faults = [f"line {it.place}: {it.why}" for it in found if isinstance(it, devices.Fault)]
-    return [it.line().removeprefix("provision ") for it in lines] + faults
+    lines = [row for row in found if isinstance(row, devices.Row)]
+    faults = [f"line {row.place}: {row.why}" for row in found if isinstance(row, devices.Fault)]
+    return [row.line().removeprefix("provision ") for row in lines] + faults
 
 
-def of_applications(trials):
-    """The rows of ChirpStack's events and commands, and of files of devices."""
-    heard = "0016C001F153A14C 867100000 1 42 -36"
-    event = Translator(3, {}).event(f"up {DEVICE} 5 10 1 AA 2 {heard}", TIME)
-    again = Translator(3, {}).event(f"up {DEVICE} 5 10 1 AA 2 {heard}", "later")
-    came = event.body.pop("deduplicationId")
-    trials.compare("up", (event.kind, event.body), ("up", UP))
-    trials.compare("its identifier again", again.body["deduplicationId"], came)
-    topic = f"application/3/device/{DEVICE}/event/up"
-    trials.compare("its topic", event.topic(3), topic)
-    later = Translator(3, {}).event(f"up {DEVICE} 5 10 1 AA 2 {heard} {LATER}", TIME)
-    later.body.pop("deduplicationId")
-    trials.compare("up with more words", (later.kind, later.body), ("up", UP))
-    for line, due in LINES:
-        trials.compare(line, outcome(translated, line), due)
-        trials.compare(f"{line} {LATER}", outcome(translated, f"{line} {LATER}"), due)
-    for (battery, margin), due in STATUSES:
-        trials.compare(f"battery {battery}", tuple(status(battery, margin).values()), due)
-    for text, due in COMMANDS:
-        text, due = (it % DEVICE if "%s" in it else it for it in (text, str(due)))
-        came = outcome(asked, text)
-        trials.compare(f"down {text}", str(came), due)
-    for line, due in REFUSED:
-        trials.compare(line, refusal(line)[0], due)
-    for text, due in FILES:
-        trials.compare(f"file {text[:50]!r}", read(text), due)
+@pytest.mark.parametrize("more", ("", f" {LATER}"), ids=("today", "later"))
+def test_event_up(more: str) -> None:
+    """The event of a reading. Its identifier is the same if it comes again."""
+    line = f"up {DEVICE} 5 10 1 AA 2 0016C001F153A14C 867100000 1 42 -36{more}"
+    event, again = (Translator(3, {}).event(line, moment) for moment in (TIME, "later"))
+    identifier = event.body.pop("deduplicationId")
+    assert (event.kind, event.body) == ("up", UP)
+    assert again.body["deduplicationId"] == identifier
+    assert event.topic(3) == f"application/3/device/{DEVICE}/event/up"
 
 
-TOPICS = {"rows of ChirpStack's events, and of files of devices": of_applications}
+# a reading, and others: of another device, session or counter
+MARKS = (f"{DEVICE} 5 10", f"{DEVICE[:-1]}2 5 10", f"{DEVICE} 6 10", f"{DEVICE} 5 11")
+
+
+def test_identifiers_of_readings() -> None:
+    """Each reading has an identifier of its own."""
+    lines = [f"up {mark} 1 AA 2 0016C001F153A14C 867100000 1 42 -36" for mark in MARKS]
+    events = [Translator(3, {}).event(line, TIME) for line in lines]
+    assert len({event.body["deduplicationId"] for event in events}) == len(MARKS)
+
+
+# an id, and whether it is a tag
+IDS: tuple = (
+    ("7", True),
+    ("0", True),
+    ("007", False),
+    ("x", False),
+    ("", False),
+    ("1000000000", False),
+)
+IDS += (("999999999", True), ("\u0667", False), ("-7", False))
+
+
+@table("text, is_tag", IDS)
+def test_tag_of_an_id(text: str, is_tag: bool) -> None:
+    """An id that is a number is the tag, as it is; a tag of another one is above all of these."""
+    tag = Names().add(DEVICE, text)
+    assert (tag == int(text)) if is_tag else (tag >= 10**9)
+
+
+@pytest.mark.parametrize("more", ("", f" {LATER}"), ids=("today", "later"))
+@table("line, due", LINES)
+def test_event(line: str, more: str, due: Any) -> None:
+    """The event of a line, also if a later server adds words."""
+    assert outcome(translated, line + more) == due
+
+
+@table("answer, due", STATUSES)
+def test_status(answer: Any, due: Any) -> None:
+    """A device's battery and margin."""
+    assert tuple(status(*answer).values()) == due
+
+
+@table("text, due", COMMANDS)
+def test_command_down(text: str, due: Any) -> None:
+    """What is asked for a command."""
+    text, due = (word % DEVICE if "%s" in word else word for word in (text, str(due)))
+    assert str(outcome(asked, text)) == due
+
+
+@table("line, code", REFUSED)
+def test_refusal(line: str, code: str) -> None:
+    """The code of what the network refuses."""
+    assert refusal(line)[0] == code
+
+
+@table("text, due", FILES)
+def test_devices(text: str, due: Any) -> None:
+    """What is read of a file of devices."""
+    assert read(text) == due

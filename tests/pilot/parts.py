@@ -1,19 +1,41 @@
 """The parts of a pilot, as processes in a folder of their own: the server, a broker, bridges."""
 
 import os
+import subprocess
+import sys
+from importlib.machinery import SourceFileLoader
+from importlib.util import module_from_spec, spec_from_loader
 from pathlib import Path
+from types import ModuleType
 from typing import Any
 
 from bozintar.processes import HOST, Failed, Process, Processes, command, free_port
 from bozintar.server import Program
 
-PILOT = Path(__file__).resolve().parents[1]
+PILOT = Path(__file__).resolve().parents[2] / "pilot"
+
+
+def program_of_pilot(name: str) -> ModuleType:
+    """A program of pilot/ as a module: what is tried of it without a process."""
+    loader = SourceFileLoader(name.replace("/", "_").replace("-", "_"), str(PILOT / name))
+    spec = spec_from_loader(loader.name, loader)
+    assert spec
+    module = module_from_spec(spec)
+    loader.exec_module(module)
+    return module
+
+
+def run(name: str, *words: Any, **how: Any) -> tuple[int, str, str]:
+    """Runs a program of pilot/ to its end; its status, and what it prints and complains."""
+    program = [sys.executable, str(PILOT / name), *map(str, words)]
+    ended = subprocess.run(program, capture_output=True, text=True, check=False, **how)
+    return ended.returncode, ended.stdout, ended.stderr
 
 
 class Parts(Processes):
     """Bridges and a broker."""
 
-    def __init__(self, folder: str = ""):
+    def __init__(self, folder: str = "") -> None:
         super().__init__("pilot-", folder)
         self.broker_port, self.udp_port = free_port(), free_port()
 
@@ -35,7 +57,7 @@ class Parts(Processes):
 class Pilot(Parts):
     """A server on an empty store, and what was started beside it."""
 
-    def __init__(self, path: str, slots: int = 256):
+    def __init__(self, path: str, slots: int = 256) -> None:
         self.program = Program(path)
         super().__init__(self.program.folder)
         made = self.program.format(slots=slots)

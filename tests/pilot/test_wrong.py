@@ -7,16 +7,21 @@ import subprocess
 import sys
 import threading
 import time
+from collections.abc import Callable, Iterator
+from typing import Any
+
+import pytest
 
 from bozintar import oracle
 from bozintar.fields import Wrong
 from bozintar.processes import HOST, await_that
 from bozintar.wire import Downlink, Frames, NoMessage, line_of
 from bridges.application_events import Translator
-from .beside import nobody_reads
+
 from .field import GATEWAYS
-from .parts import PILOT, Pilot
-from . import beside
+from .parts import PILOT, Pilot, run
+from .played import nobody_reads
+from .rows import table
 
 AT = "127.0.0.1:1"
 GATEWAY = ("--gateway", GATEWAYS[0])
@@ -111,102 +116,108 @@ STRANGE = (
     oracle.message(b"\x13refused x"),
     oracle.message("\x13up \u00e4".encode()),
 )
+PROGRAMS = sorted({name for name, _, _ in WORDS})
 
 
 def ended(name: str, *said: str) -> tuple[int | None, str, str]:
-    """How a program ends; its status is None where it goes on."""
-    it = [sys.executable, PILOT / name, *said]
-    how = {"stdin": subprocess.DEVNULL, "capture_output": True, "text": True, "check": False}
+    """How a program ends; its status is None if it goes on."""
     try:
-        it = subprocess.run(it, timeout=10, **how)
+        return run(name, *said, stdin=subprocess.DEVNULL, timeout=10)
     except subprocess.TimeoutExpired:
         return None, "", ""
-    return it.returncode, it.stdout, it.stderr
 
 
-def words(trials):
+@table("said, due", [(" ".join((name, *said)), due) for name, said, due in WORDS])
+def test_wrong_words(said: str, due: int) -> None:
     """Wrong words and files: one line, and no traceback."""
-    for name, said, due in WORDS:
-        status, _, told = ended(name, *said)
-        came = (status, len(told.strip().splitlines()), "Traceback" in told)
-        trials.compare(f"{name} {' '.join(said)}: {told[-200:]}", came, (due, 1, False))
-    for name in sorted({name for name, _, _ in WORDS} | {"trial"}):
-        status, out, told = ended(name, "--help")
-        trials.compare(f"{name} --help", (status, told), (0, ""))
-        trials.holds(f"{name} --help says something", len(out) > 200)
-    for name in ("applications-mqtt", "gateways-mqtt", "gateways-udp", "metrics"):
-        for output, due in ((open("/dev/full", "w"), (1, 1)), (nobody_reads(), (141, 0))):
-            with output:
-                status, told = helped(name, output)
-            trials.compare(f"{name} --help to {output.name}", (status, told.count("\n")), due)
+    status, _, told = ended(*said.split(" "))
+    assert (status, len(told.strip().splitlines())) == (due, 1), told
+    assert "Traceback" not in told
 
 
-def helped(name: str, output) -> tuple[int, str]:
-    """How --help ends where its output can't be written, buffered as it is by itself."""
-    how = {"stdout": output, "stderr": subprocess.PIPE, "text": True, "check": False}
-    how["env"] = {name: of for name, of in os.environ.items() if name != "PYTHONUNBUFFERED"}
-    it = subprocess.run([sys.executable, PILOT / name, "--help"], **how)
-    return it.returncode, it.stderr
+@pytest.mark.parametrize("name", PROGRAMS)
+def test_help(name: str) -> None:
+    """--help says something."""
+    status, out, told = ended(name, "--help")
+    assert (status, told) == (0, "")
+    assert len(out) > 200
+
+
+@pytest.mark.parametrize("to", ("a full disk", "a pipe that nobody reads"))
+@pytest.mark.parametrize("name", ("applications-mqtt", "gateways-mqtt", "gateways-udp", "metrics"))
+def test_help_that_nobody_reads(name: str, to: str) -> None:
+    """How --help ends if its output can't be written, buffered as it is by itself."""
+    output, due = (open("/dev/full", "w"), (1, 1)) if "disk" in to else (nobody_reads(), (141, 0))
+    environment = {name: of for name, of in os.environ.items() if name != "PYTHONUNBUFFERED"}
+    how: Any = {"stdout": output, "stderr": subprocess.PIPE, "text": True, "env": environment}
+    with output:
+        came = subprocess.run([sys.executable, str(PILOT / name), "--help"], check=False, **how)
+    assert (came.returncode, came.stderr.count("\n")) == due
 
 
 class Stranger:
     """A network that says what none does."""
 
-    def __init__(self, seed: int):
+    def __init__(self, seed: int) -> None:
         self.chance, self.links = random.Random(seed), 0
         self.listener = socket.create_server((HOST, 0))
         self.port = self.listener.getsockname()[1]
         threading.Thread(target=self.serve, daemon=True).start()
 
-    def serve(self):
+    def serve(self) -> None:
         """Greets each link with one of the strange things, in turn, and noise."""
         while True:
-            it, _ = self.listener.accept()
-            with it:
-                it.settimeout(1)
+            connection, _ = self.listener.accept()
+            with connection:
+                connection.settimeout(1)
                 try:
-                    it.recv(100)
-                    it.sendall(STRANGE[self.links % len(STRANGE)])
-                    it.sendall(self.chance.randbytes(self.chance.randrange(200)))
-                    it.recv(100)
+                    connection.recv(100)
+                    connection.sendall(STRANGE[self.links % len(STRANGE)])
+                    connection.sendall(self.chance.randbytes(self.chance.randrange(200)))
+                    connection.recv(100)
                 except OSError:
                     pass
             self.links += 1
 
 
-def peers(trials):
+@pytest.fixture
+def strangers(seed: int) -> Iterator[list[Stranger]]:
+    """Two of them."""
+    made = [Stranger(seed), Stranger(seed + 1)]
+    yield made
+    for stranger in made:
+        stranger.listener.close()
+
+
+def test_strange_peers(pilot: Pilot, strangers: list[Stranger]) -> None:
     """Networks that say strange things: both bridges go on, and link again."""
-    with Pilot(trials.path) as pilot:
-        pilot.broker().start("running")
-        stranger = [Stranger(it) for it in range(2)]
-        udp = ("--udp", f"{HOST}:{pilot.udp_port}", *GATEWAY)
-        broker = ("--broker", f"{HOST}:{pilot.broker_port}", "--application", "3")
-        first = pilot.own("gateways-udp", "--network", f"{HOST}:{stranger[0].port}", *udp)
-        second = pilot.own("applications-mqtt", "--network", f"{HOST}:{stranger[1].port}", *broker)
-        first.start("listens on")
-        second.start("connected to")
-        strange_contents(trials)
-        head = b"\x02\x00\x01\x02" + bytes.fromhex(GATEWAYS[0])
-        with socket.socket(socket.AF_INET, socket.SOCK_DGRAM) as it:
-            it.sendto(head, (HOST, pilot.udp_port))
-        await_that("two links each", lambda: min(it.links for it in stranger) >= 2)
-        time.sleep(0.2)
-        for part in (first, second):
-            trials.compare(f"{part.name} goes on", part.process.poll(), None)
-            trials.compare(f"{part.name} ends well", part.end(), 0)
+    pilot.broker().start("running")
+    networks = [("--network", f"{HOST}:{stranger.port}") for stranger in strangers]
+    udp = ("--udp", f"{HOST}:{pilot.udp_port}", *GATEWAY)
+    broker = ("--broker", f"{HOST}:{pilot.broker_port}", "--application", "3")
+    first = pilot.own("gateways-udp", *networks[0], *udp).start("listens on")
+    second = pilot.own("applications-mqtt", *networks[1], *broker).start("connected to")
+    head = b"\x02\x00\x01\x02" + bytes.fromhex(GATEWAYS[0])
+    with socket.socket(socket.AF_INET, socket.SOCK_DGRAM) as sender:
+        sender.sendto(head, (HOST, pilot.udp_port))
+    await_that("two links each", lambda: min(stranger.links for stranger in strangers) >= 2)
+    time.sleep(0.2)
+    for part in (first, second):
+        assert part.poll() is None, f"{part.name} goes on"
+        assert part.end() == 0, f"{part.name} ends well"
 
 
-def strange_contents(trials):
-    """Each strange thing, read by what both bridges read with: a fault that they know of."""
-    for said in STRANGE:
-        for read in (Downlink.read, lambda it: Translator(3, {}).event(line_of(it), "")):
-            try:
-                for content in Frames().feed(said):
-                    read(content)
-                came = "read"
-            except (Wrong, NoMessage, ValueError, TypeError) as why:
-                came = str(why)
-            trials.holds(f"{said[:30]!r}", came)
+def read_line(content: bytes) -> Any:
+    """What the bridge of an application reads of a content."""
+    return Translator(3, {}).event(line_of(content), "")
 
 
-TOPICS = {"wrong words and files": words, "wrong peers": peers, **beside.TOPICS}
+@pytest.mark.parametrize("read", (Downlink.read, read_line), ids=("a downlink", "a line"))
+@table("said, number", [(said, number) for number, said in enumerate(STRANGE)])
+def test_strange_content(said: bytes, number: int, read: Callable[[bytes], Any]) -> None:
+    """A strange thing, read by what both bridges read with: at most a fault that they know of."""
+    try:
+        for content in Frames().feed(said):
+            read(content)
+    except (Wrong, NoMessage, ValueError, TypeError):
+        pass

@@ -12,7 +12,7 @@ from bozintar.processes import HOST, Failed
 class End:
     """The network's end of a link."""
 
-    def __init__(self, connection: socket.socket):
+    def __init__(self, connection: socket.socket) -> None:
         self.socket, self.stream = connection, oracle.Stream()
         self.contents: list[bytes] = []
         self.greeting: bytes | None = None

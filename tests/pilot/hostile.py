@@ -29,10 +29,10 @@ BODIES = (
 
 def datagram(chance: random.Random) -> bytes:
     """A datagram that is wrong, or of a stranger: its EUI is one of 10,000."""
-    kind = chance.random()
-    if kind < 0.2:
+    which = chance.random()
+    if which < 0.2:
         return chance.randbytes(chance.randrange(40))
-    if kind < 0.6:
+    if which < 0.6:
         stranger = (0xC0FFEE0000000000 + chance.randrange(10_000)).to_bytes(8, "big")
         return b"\x02\x00\x01" + bytes([chance.choice((0, 2, 5))]) + stranger + b"{}"
     kind = bytes([chance.choice((0, 1, 3, 4, 5, 9))])
@@ -41,7 +41,7 @@ def datagram(chance: random.Random) -> bytes:
 
 def flood(port: int, chance: random.Random, count: int) -> int:
     """Sends so many of them; how many those are."""
-    with socket.socket(socket.AF_INET, socket.SOCK_DGRAM) as it:
+    with socket.socket(socket.AF_INET, socket.SOCK_DGRAM) as stranger:
         for _ in range(count):
-            it.sendto(datagram(chance), (HOST, port))
+            stranger.sendto(datagram(chance), (HOST, port))
     return count

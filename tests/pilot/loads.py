@@ -8,6 +8,7 @@ import socket
 import sqlite3
 import time
 from dataclasses import dataclass, field
+from typing import Any
 
 from bozintar.frames import CHANNELS
 from bozintar.mqtt import client
@@ -28,7 +29,7 @@ def gateway_eui(number: int) -> str:
 
 def frames(count: int) -> list[tuple[int, bytes]]:
     """So many confirmed readings, of all devices in turn, each with the gateway that hears it."""
-    devices, made = [load.device(it) for it in range(DEVICES)], []
+    devices, made = [load.device(number) for number in range(DEVICES)], []
     for place in range(count):
         number, counter = place % DEVICES, 1 + place // DEVICES
         frame = devices[number].uplink(7, load.payload(number, counter), confirmed=True)
@@ -56,26 +57,28 @@ class Outcome:
 class ByUdp:
     """64 packet forwarders in one."""
 
-    def __init__(self, port: int):
-        self.server, self.moments, self.waits = (HOST, port), {}, []
-        self.euis = [bytes.fromhex(gateway_eui(it)) for it in range(GATEWAYS)]
+    def __init__(self, port: int) -> None:
+        self.server = (HOST, port)
+        self.moments: dict[tuple[int, int], float] = {}
+        self.waits: list[float] = []
+        self.euis = [bytes.fromhex(gateway_eui(number)) for number in range(GATEWAYS)]
         self.sockets = [socket.socket(socket.AF_INET, socket.SOCK_DGRAM) for _ in self.euis]
         self.poll = select.epoll()
-        for it in self.sockets:
-            it.connect(self.server)
-            it.setblocking(False)
-            self.poll.register(it.fileno(), select.EPOLLIN)
-        self.by_number = {it.fileno(): place for place, it in enumerate(self.sockets)}
+        for own in self.sockets:
+            own.connect(self.server)
+            own.setblocking(False)
+            self.poll.register(own.fileno(), select.EPOLLIN)
+        self.by_number = {own.fileno(): place for place, own in enumerate(self.sockets)}
         self.next_pull = 0.0
 
-    def look(self):
+    def look(self) -> None:
         """Asks for downlinks where it is time."""
         if time.monotonic() >= self.next_pull:
             self.next_pull = time.monotonic() + PULLS_EVERY
-            for it, eui in zip(self.sockets, self.euis):
-                it.send(b"\x02\x00\x01\x02" + eui)
+            for own, eui in zip(self.sockets, self.euis):
+                own.send(b"\x02\x00\x01\x02" + eui)
 
-    def hears(self, gateway: int, frame: bytes, hz: int):
+    def hears(self, gateway: int, frame: bytes, hz: int) -> None:
         """A gateway hears a frame."""
         now = time.monotonic()
         stamp = round(now * 1e6) % 2**32
@@ -86,7 +89,7 @@ class ByUdp:
         body = json.dumps({"rxpk": [rxpk]}).encode()
         self.sockets[gateway].send(b"\x02\x00\x02\x00" + self.euis[gateway] + body)
 
-    def read(self, wait: float):
+    def read(self, wait: float) -> None:
         """Takes what comes."""
         for number, _ in self.poll.poll(max(0.0, wait)):
             place = self.by_number[number]
@@ -102,26 +105,30 @@ class ByUdp:
 class ByMqtt:
     """64 gateways behind ChirpStack's gateway bridges, in one."""
 
-    def __init__(self, port: int):
-        self.moments, self.waits, self.number = {}, [], 0
+    def __init__(self, port: int) -> None:
+        self.moments: dict[bytes, float] = {}
+        self.waits: list[float] = []
+        self.number = 0
         self.client = client("stations")
         self.client.max_inflight_messages_set(1000)
         self.client.on_message = self.note
         no_delay = (socket.IPPROTO_TCP, socket.TCP_NODELAY, 1)
-        self.client.on_socket_open = lambda _client, _data, it: it.setsockopt(*no_delay)
+        self.client.on_socket_open = lambda _client, _data, opened: opened.setsockopt(*no_delay)
         self.client.connect(HOST, port)
         self.client.subscribe("eu868/gateway/+/command/down", 1)
         self.client.loop_start()
         self.next_stats = 0.0
 
-    def look(self):
+    def look(self) -> None:
         """Says how gateways do where it is time."""
         if time.monotonic() >= self.next_stats:
             self.next_stats = time.monotonic() + PULLS_EVERY
-            for it in range(GATEWAYS):
-                self.client.publish(f"eu868/gateway/{gateway_eui(it).lower()}/event/stats", b"{}")
+            for number in range(GATEWAYS):
+                self.client.publish(
+                    f"eu868/gateway/{gateway_eui(number).lower()}/event/stats", b"{}"
+                )
 
-    def hears(self, gateway: int, frame: bytes, hz: int):
+    def hears(self, gateway: int, frame: bytes, hz: int) -> None:
         """A gateway hears a frame."""
         self.number += 1
         eui, context = gateway_eui(gateway).lower(), self.number.to_bytes(4, "big")
@@ -133,13 +140,13 @@ class ByMqtt:
         self.moments[context] = time.monotonic()
         self.client.publish(f"eu868/gateway/{eui}/event/up", json.dumps(body), 1)
 
-    def note(self, _client, _data, message):
+    def note(self, _client: Any, _data: Any, message: Any) -> None:
         """A downlink came."""
         now, body = time.monotonic(), json.loads(message.payload)
         context = base64.b64decode(body["items"][0]["txInfo"]["context"])
         self.waits.append(now - self.moments.pop(context) - WINDOW)
 
-    def read(self, wait: float):
+    def read(self, wait: float) -> None:
         """Lets time pass."""
         time.sleep(max(0.0, wait))
 
@@ -147,19 +154,19 @@ class ByMqtt:
 class Loaded:
     """A pilot with devices in their sessions, and the parts whose cost is measured."""
 
-    def __init__(self, pilot: Pilot, kind: str):
+    def __init__(self, pilot: Pilot, kind: str) -> None:
         self.pilot = pilot
         pilot.program.stop()
-        store.put(pilot.program.store, [load.record(it, 1) for it in range(DEVICES)])
+        store.put(pilot.program.store, [load.record(number, 1) for number in range(DEVICES)])
         pilot.program.run_on(96, port=pilot.address[1])
         broker = pilot.broker().start("running")
-        at = ("--broker", f"{HOST}:{pilot.broker_port}")
-        named = [word for it in range(GATEWAYS) for word in ("--gateway", gateway_eui(it))]
+        at: tuple = ("--broker", f"{HOST}:{pilot.broker_port}")
+        named = [word for number in range(GATEWAYS) for word in ("--gateway", gateway_eui(number))]
         words = ("--network", pilot.network, *named)
         if kind == "udp":
             udp = ("--udp", f"{HOST}:{pilot.udp_port}")
             bridge = pilot.own("gateways-udp", *words, *udp).start("listens on")
-            self.gateways = ByUdp(pilot.udp_port)
+            self.gateways: ByUdp | ByMqtt = ByUdp(pilot.udp_port)
         else:
             bridge = pilot.own("gateways-mqtt", *words, *at).start("connected to")
             self.gateways = ByMqtt(pilot.broker_port)
@@ -180,13 +187,13 @@ class Loaded:
 
     def stored(self) -> int:
         """How many readings are stored."""
-        with sqlite3.connect(f"file:{self.database}?mode=ro", uri=True) as it:
-            return it.execute("SELECT count(*) FROM readings").fetchone()[0]
+        with sqlite3.connect(f"file:{self.database}?mode=ro", uri=True) as database:
+            return database.execute("SELECT count(*) FROM readings").fetchone()[0]
 
     def run(self, rate: int, seconds: int) -> Outcome:
         """Sends at a rate for so long; what became of it."""
         plan, outcome = frames(rate * seconds), Outcome(rate * seconds)
-        before = [it.processor() for it in self.parts]
+        before = [part.processor() for part in self.parts]
         begun = time.monotonic()
         for place, (gateway, frame) in enumerate(plan):
             due = begun + place / rate
@@ -201,7 +208,7 @@ class Loaded:
         while self.stored() < len(plan) and time.monotonic() < last:
             time.sleep(0.1)
         outcome.waits, outcome.stored = list(self.gateways.waits), self.stored()
-        for it, took in zip(self.parts, before):
-            each = 1e6 * (it.processor() - took) / len(plan)
-            outcome.parts[it.name] = (each, it.memory(most=True) / 1024)
+        for part, took in zip(self.parts, before):
+            each = 1e6 * (part.processor() - took) / len(plan)
+            outcome.parts[part.name] = (each, part.memory(most=True) / 1024)
         return outcome

@@ -1,0 +1,123 @@
+"""What all trials share: options, the program lnsd, ports, trials that the machine spoils, and the
+last line, 'N passed, M failed'."""
+
+import os
+import signal
+import sys
+import tempfile
+from collections.abc import Iterator
+from pathlib import Path
+from types import FrameType
+from typing import Any, NoReturn
+
+import pytest
+from _pytest.runner import runtestprotocol
+
+from .ports import take_ports
+
+take_ports()  # before bozintar.processes looks which ones there are
+
+from bozintar.server import BUILT
+from bozintar.words import is_program
+
+from .pauses import Pauses
+
+# programs that trials start write no bytecode into the tree
+sys.dont_write_bytecode = True
+os.environ["PYTHONDONTWRITEBYTECODE"] = "1"
+# how often a trial is done that failed while the machine paused
+TIMES = 4
+SEED = 7
+
+
+def pytest_addoption(parser: pytest.Parser) -> None:
+    """The options of trials."""
+    group = parser.getgroup("trials of Bozintar")
+    text = "the program lnsd, for example out/unproved/lnsd, which bin/unproved lnsd makes"
+    group.addoption("--program", metavar="FILE", default=BUILT, help=f"{text} ({BUILT})")
+    text = "how often each trial is done, random ones with the next seed each time (1)"
+    group.addoption("--rounds", type=int, metavar="N", default=1, help=text)
+    group.addoption("--seed", type=int, metavar="N", default=SEED, help=f"the first seed ({SEED})")
+
+
+def pytest_configure(config: pytest.Config) -> None:
+    """SIGTERM and SIGHUP end a run as Ctrl-C does: fixtures end what they started."""
+    for number in (signal.SIGTERM, signal.SIGHUP):
+        signal.signal(number, end)
+
+
+def end(number: int, _frame: FrameType | None) -> NoReturn:
+    """Ends the run."""
+    pytest.exit(f"ended by signal {number}", 128 + number)
+
+
+def pytest_generate_tests(metafunc: pytest.Metafunc) -> None:
+    """With --rounds each trial is done N times, each time with the next seed."""
+    rounds, first = metafunc.config.getoption("rounds"), metafunc.config.getoption("seed")
+    if "seed" in metafunc.fixturenames:
+        seeds = range(first, first + rounds)
+        metafunc.parametrize("seed", seeds, ids=[f"seed{seed}" for seed in seeds])
+    elif rounds > 1:
+        metafunc.fixturenames.append("of_round")
+        metafunc.parametrize("of_round", range(rounds), ids=[f"round{n}" for n in range(rounds)])
+
+
+@pytest.fixture(scope="session")
+def program(pytestconfig: pytest.Config) -> str:
+    """The path of the program lnsd."""
+    path = pytestconfig.getoption("program")
+    if not is_program(path):
+        pytest.fail(f"there is no program {path}: bin/build lnsd makes {BUILT}", pytrace=False)
+    return os.path.abspath(path)
+
+
+@pytest.fixture
+def folder() -> Iterator[Path]:
+    """An empty folder, which is removed."""
+    with tempfile.TemporaryDirectory(prefix="bozintar-") as made:
+        yield Path(made)
+
+
+def pytest_runtest_protocol(item: pytest.Item, nextitem: pytest.Item | None) -> bool:
+    """Does one trial, again if it failed while the machine paused: that says nothing of what is
+    tried."""
+    item.ihook.pytest_runtest_logstart(nodeid=item.nodeid, location=item.location)
+    for time in range(TIMES):
+        with Pauses() as pauses:
+            reports = runtestprotocol(item, log=False, nextitem=nextitem)
+        has_failed = any(report.failed for report in reports)
+        if not (has_failed and pauses.is_spoilt() and time < TIMES - 1):
+            break
+        print(f"{item.nodeid}: the machine paused for {pauses.longest:.2f} s; it is done again")
+    for report in reports:
+        add_repetition(item, report)
+        item.ihook.pytest_runtest_logreport(report=report)
+    item.ihook.pytest_runtest_logfinish(nodeid=item.nodeid, location=item.location)
+    return True
+
+
+def add_repetition(item: pytest.Item, report: pytest.TestReport) -> None:
+    """Says how a random trial that failed is done again."""
+    params: dict[str, Any] = getattr(getattr(item, "callspec", None), "params", {})
+    if report.failed and "seed" in params:
+        program = item.config.getoption("program")
+        words = f"'{item.nodeid}' --program {program} --seed {params['seed']}"
+        report.sections.append(("to repeat it", f"/usr/bin/python3 -m pytest {words}"))
+
+
+def pytest_terminal_summary(terminalreporter: Any) -> None:
+    """Counts: the last line of a run. A trial that can't begin or end has failed."""
+    failed = {
+        report.nodeid
+        for kind in ("failed", "error")
+        for report in terminalreporter.stats.get(kind, [])
+    }
+    passed = {report.nodeid for report in terminalreporter.stats.get("passed", [])} - failed
+    terminalreporter.config.counted = f"{len(passed)} passed, {len(failed)} failed"
+
+
+@pytest.hookimpl(trylast=True)
+def pytest_unconfigure(config: pytest.Config) -> None:
+    """Prints the last line."""
+    if counted := getattr(config, "counted", ""):
+        print(counted)

@@ -1,0 +1,135 @@
+"""A gateway that says too much, or what can't be, beside another one and a network that is played:
+the network gets what one gateway may say, and all of the other one."""
+
+import json
+import time
+from dataclasses import dataclass, field
+
+import pytest
+from bozintar.buckets import Bucket
+from bozintar.forwarders import Air, Forwarder
+from bozintar.processes import HOST, Process
+
+from .field import GATEWAYS, counts_in
+from .networks import End, Network
+from .parts import Parts
+from .played import gateways, rxpk
+from .stations import Station
+
+# of each gateway: frames a second, and at once after a pause
+RATE, BURST = 200, 400
+# moments in seconds, how many frames come then, and how many of them are handed in
+FRAMES = (
+    (1000.0, 500, 400),
+    (1000.0, 1, 0),
+    (1000.5, 150, 100),
+    (1000.75, 20, 20),
+    (1001.0, 100, 80),
+    (1009.0, 1000, 400),
+    (1009.015625, 9, 3),
+    (1e6, 401, 400),
+)
+# a flood: so many datagrams of so many frames each, or as many events
+DATAGRAMS, EACH = 20, 100
+SENT = DATAGRAMS * EACH
+NAMED = [word for eui in GATEWAYS[:2] for word in ("--gateway", eui)]
+
+
+def test_bucket() -> None:
+    """How many frames are handed in at which moments."""
+    bucket = Bucket(RATE, BURST)
+    for moment, count, due in FRAMES:
+        came = sum(bucket.lets(moment) for _ in range(count))
+        assert came == due, f"of {count} frames at {moment}"
+
+
+def payload_of(content: bytes) -> bytes:
+    """The frame of a copy."""
+    return content[22:]
+
+
+def came_on(link: End) -> list[bytes]:
+    """The frames that come on a link until it ends."""
+    found = []
+    while (content := link.hears()) and content not in (b"reset", b"nothing"):
+        found.append(payload_of(content))
+    return found
+
+
+def counted(file: str, prefix: str) -> dict[str, int]:
+    """What a bridge counted."""
+    return {name.removeprefix(prefix): count for name, count in counts_in(file).items()}
+
+
+@dataclass
+class Flood:
+    """A flood of one gateway beside another one, and what came of it."""
+
+    part: Process
+    links: list[End] = field(default_factory=list)
+    begun: float = 0.0
+
+    def compare(self, counts: dict, wrong: str) -> None:
+        """Ends the bridge, and compares what came of both gateways, and what was counted and
+        told."""
+        seconds = time.monotonic() - self.begun
+        told = [line.partition("  ")[2] for line in self.part.said().splitlines()]
+        due = f"gateway {GATEWAYS[0]} says more than {RATE} frames a second; the rest is dropped"
+        assert [line for line in told if "dropped" in line] == [due]
+        first, second = map(came_on, self.links)
+        most = BURST + RATE * seconds + 1
+        assert BURST <= len(first) <= most, f"frames of {SENT} in {seconds:.1f} s"
+        assert first[:BURST] == [b"%04d" % number for number in range(BURST)], "the first ones"
+        assert second == [b"first", b"last"], "those of the other gateway"
+        names = ("copies", "unlinked", "too_many", wrong)
+        due_counts = [len(first) + 2, 0, SENT - len(first), 1]
+        assert [counts.get(name) for name in names] == due_counts, names
+
+
+@pytest.mark.timed
+def test_flood_by_udp(parts: Parts, network: Network) -> None:
+    """A gateway floods the bridge of gateways by UDP."""
+    file = parts.file("gateways.prom")
+    flood = Flood(gateways(parts, network.at, *NAMED, "--counts", file, ready="listens on"))
+    first, second = (Forwarder(eui, parts.udp_port) for eui in GATEWAYS[:2])
+    for gateway in (first, second):
+        gateway.look()
+        flood.links.append(network.link())
+    second.hears(b"first")
+    flood.begun = time.monotonic()
+    for place in range(DATAGRAMS):
+        numbers = range(EACH * place, EACH * (place + 1))
+        heard = [rxpk(number, b"%04d" % number, 7) for number in numbers]
+        count = first.acknowledged
+        first.say(0, json.dumps({"rxpk": heard}).encode())
+        Air([first], []).go_on(10, lambda: first.acknowledged > count)
+    second.hears(b"loud", snr=50)
+    second.hears(b"last")
+    Air([second], []).go_on(10, lambda: second.acknowledged >= 4)
+    assert flood.part.end() == 0
+    flood.compare(counted(file, "gateways_udp_"), "wrong_datagrams")
+
+
+@pytest.mark.timed
+def test_flood_by_mqtt(parts: Parts, network: Network) -> None:
+    """A gateway floods the bridge of gateways by MQTT."""
+    parts.broker().start("running")
+    file = parts.file("gateways.prom")
+    words = ("--network", network.at, "--broker", f"{HOST}:{parts.broker_port}", *NAMED)
+    flood = Flood(parts.own("gateways-mqtt", *words, "--counts", file).start("connected to"))
+    first, second = (Station(eui, parts.broker_port) for eui in GATEWAYS[:2])
+    with first, second:
+        for gateway in (first, second):
+            gateway.look()
+            flood.links.append(network.link())
+        second.hears(b"first")
+        flood.begun = time.monotonic()
+        for number in range(SENT):
+            first.hears(b"%04d" % number)
+        first.client.publish("other", b"", 1).wait_for_publish(30)
+        second.hears(b"loud", snr=50)
+        second.hears(b"last")
+        second.client.publish("other", b"", 1).wait_for_publish(30)
+        time.sleep(0.5)
+    assert flood.part.end() == 0
+    flood.compare(counted(file, "gateways_mqtt_"), "wrong_events")

@@ -1,0 +1,190 @@
+"""What many clients, or one that says much, may take of the door and of the broker. Both have as
+many descriptors here as Debian's units give them."""
+
+import json
+import os
+import resource
+import signal
+import socket
+import time
+from collections.abc import Iterator
+from contextlib import ExitStack, contextmanager
+
+import pytest
+from bozintar.mqtt import client
+from bozintar.processes import HOST, await_that
+
+from .doors import Doors, application, ended, gateway, refused_by_broker
+from .field import APPLICATION, GATEWAYS
+from .whole import Client, Dashboard
+
+pytestmark = [pytest.mark.timed]
+OF_A_UNIT, OF_A_TRIAL = 1024, 4096
+# silent connections: more than the 500 that stunnel has places for, and than a unit has descriptors
+AT_THE_DOOR, AT_THE_BROKER = 600, 1100
+# how long a client may be kept out by them, in seconds: the ten of a handshake, and a few more
+SOON = 20.0
+# how long an idle link has to last, in seconds
+IDLE = 12.0
+DEVICE = "1112131415161718"
+TOPIC = f"application/{APPLICATION}/device/{DEVICE.lower()}"
+# the settings of pilot/mosquitto.conf: a payload, what waits for a client, seconds between writes
+LONGEST, WAITING, EVERY = 65_536, 80_000_000, 30
+# for how long the broker doesn't write after its start, in seconds
+LONG = 4.0
+# a client of MQTT 3.1.1, and the answer to one that is let in
+HELLO, LET_IN = bytes.fromhex("100d00044d5154540402003c000178"), bytes.fromhex("20020000")
+
+
+@contextmanager
+def descriptors(count: int) -> Iterator[None]:
+    """This program, and what it starts, may have so many descriptors."""
+    before, most = resource.getrlimit(resource.RLIMIT_NOFILE)
+    resource.setrlimit(resource.RLIMIT_NOFILE, (count, most))
+    try:
+        yield
+    finally:
+        resource.setrlimit(resource.RLIMIT_NOFILE, (before, most))
+
+
+@contextmanager
+def silent(port: int, count: int) -> Iterator[None]:
+    """Clients that connect and say nothing."""
+    with descriptors(OF_A_TRIAL), ExitStack() as those:
+        for _ in range(count):
+            those.enter_context(socket.create_connection((HOST, port), 10))
+        yield
+
+
+@pytest.fixture
+def broker(doors: Doors) -> Doors:
+    """The broker, with the descriptors of its unit."""
+    with descriptors(OF_A_UNIT):
+        doors.open_broker()
+    return doors
+
+
+@pytest.fixture
+def door(doors: Doors) -> Doors:
+    """The server's door, with the descriptors of its unit."""
+    with descriptors(OF_A_UNIT):
+        doors.open()
+    return doors
+
+
+def test_silent_server(door: Doors) -> None:
+    """A gateway's end of the door gives up a server that says nothing."""
+    with socket.create_server((HOST, 0)) as server:
+        port = door.open_client(server.getsockname()[1])
+        with socket.create_connection((HOST, port), 10) as link:
+            link.sendall(gateway(GATEWAYS[0]))
+            link.settimeout(SOON)
+            assert ended(link)
+
+
+@pytest.mark.slow
+def test_silent_clients_at_the_door(door: Doors) -> None:
+    """Silent clients keep others out for ten seconds, and a link that is idle for longer stays."""
+    context, mine = door.own.context(GATEWAYS[0].lower()), door.own.context("application-3")
+    gateways = lambda: door.pilot.program.status()["gateways"]
+    with socket.create_connection((HOST, door.port), 10) as bare:
+        with context.wrap_socket(bare, server_hostname="localhost") as link:
+            link.sendall(gateway(GATEWAYS[0]))
+            await_that("a gateway has its link", lambda: gateways() == "1")
+            begun = time.monotonic()
+            with silent(door.port, AT_THE_DOOR):
+                let_in = lambda: door.connect(mine, application(3))
+                await_that("an application is let in beside silent ones", let_in, SOON, 0.2)
+            time.sleep(max(0.0, begun + IDLE - time.monotonic()))
+            assert gateways() == "1", "an idle link stays"
+
+
+def is_let_in(port: int) -> bool:
+    """Whether the broker lets a client in on loopback."""
+    try:
+        with socket.create_connection((HOST, port), 5) as connection:
+            connection.sendall(HELLO)
+            return connection.recv(4) == LET_IN
+    except OSError:
+        return False
+
+
+def test_silent_clients_at_the_broker(broker: Doors) -> None:
+    """Clients from outside leave descriptors to those of loopback; once they are gone, others from
+    outside are let in."""
+    context, port = broker.own.context(GATEWAYS[0].lower()), broker.broker_port
+    with silent(port, AT_THE_BROKER):
+        is_well = is_let_in(broker.pilot.broker_port)
+        assert is_well, "a client on loopback is let in beside silent ones outside"
+    await_that("one from outside is let in", lambda: not refused_by_broker(port, context))
+
+
+def test_long_messages(broker: Doors) -> None:
+    """The longest message is passed on, and a longer one isn't; its client goes on."""
+    with Dashboard(broker.pilot.broker_port) as dashboard:
+        for length in (LONGEST, LONGEST + 1, 3):
+            dashboard.say(f"{TOPIC}/event/up", json.dumps("x" * (length - 2)).encode())
+        await_that("the last one", lambda: dashboard.events and dashboard.events[-1][2] == "x")
+        came = [len(json.dumps(body)) for _, _, body in dashboard.events]
+    assert came == [LONGEST, 3], "the lengths of what is passed on"
+
+
+class Kept(Client):
+    """A client whose session the broker keeps while it is away."""
+
+    def __init__(self, port: int) -> None:
+        self.numbers: list[int] = []
+        self.port, self.is_there = port, False
+        self.client = client("kept")
+        self.client.reinitialise("kept", clean_session=False)
+        self.client.on_message = lambda *words: self.numbers.append(int(words[2].payload))
+        self.client.on_connect = lambda connected, *_: connected.subscribe(
+            f"{TOPIC}/command/down", 1
+        )
+        self.client.on_subscribe = lambda *_: setattr(self, "is_there", True)
+
+    def come(self) -> None:
+        """Connects."""
+        self.client.connect(HOST, self.port)
+        self.client.loop_start()
+        await_that("a client is there", lambda: self.is_there)
+
+    def go(self) -> None:
+        """Goes away."""
+        self.end()
+        self.is_there = False
+
+
+@pytest.mark.slow
+def test_when_the_broker_writes(broker: Doors) -> None:
+    """The broker writes what waits to its disk: not each second, but twice a minute."""
+    begun, file = time.monotonic(), broker.pilot.file("mosquitto.db")
+    with Kept(broker.pilot.broker_port) as kept:
+        kept.come()
+    time.sleep(max(0.0, begun + LONG - time.monotonic()))
+    assert not os.path.exists(file), "the broker doesn't write each second"
+    await_that("the broker writes", lambda: os.path.exists(file))
+    assert time.time() - os.stat(file).st_mtime < EVERY + 5, "how old it is"
+    assert time.monotonic() - begun < EVERY + 5
+
+
+def test_what_waits(broker: Doors) -> None:
+    """The broker keeps so many bytes for a client that is away, and drops what comes then. It keeps
+    them when it is stopped."""
+    port, count = broker.pilot.broker_port, WAITING // LONGEST + 50
+    kept = Kept(port)
+    kept.come()
+    kept.go()
+    said = [f"{number:<{LONGEST}}".encode() for number in range(count)]
+    with Dashboard(port) as dashboard:
+        for payload in said[:-1]:
+            dashboard.client.publish(f"{TOPIC}/command/down", payload, 1)
+        dashboard.say(f"{TOPIC}/command/down", said[-1])
+    assert broker.broker.end(signal.SIGTERM) == 0
+    broker.broker.start("running")
+    with kept:
+        kept.come()
+        due = list(range(WAITING // LONGEST + 1))
+        await_that("what waited", lambda: len(kept.numbers) >= len(due))
+        time.sleep(0.5)
+        assert kept.numbers == due, "which ones waited"

@@ -1,0 +1,244 @@
+"""Applications by MQTT: devices from a file, readings, items, and what is stored."""
+
+import base64
+import json
+import signal
+from collections.abc import Iterable, Iterator
+
+import pytest
+from bozintar.meters import Meter, Reading
+from bozintar.processes import HOST, await_that
+
+from .field import APPLICATION, GATEWAYS
+from .parts import Parts, run
+from .whole import Dashboard, Whole
+
+TAG = 41
+# readings: the device as an event has it, JoinNonce, counter; and what is printed of them
+SESSIONS = (
+    ("70b3d57ed0000002", 9, 7),
+    ("70b3d57ed0000002", 10, 0),
+    ("70b3d57ed0000002", 2, 900),
+    ("00000000000000fe", 16_777_215, 1),
+    ("70b3d57ed0000001", 1, 0),
+)
+HEAD = "DevEUI,JoinNonce"
+HIGHEST = ("00000000000000FE,16777215", "70B3D57ED0000001,1", "70B3D57ED0000002,10")
+# nothing, no JSON, no object, no base64, too deep, no number
+WRONG_COMMANDS = (b"", b"{", b"[]", b'{"fPort":7,"data":"%"}', b"[" * 60000, b'{"fPort":"7"}')
+
+
+@pytest.fixture
+def meters() -> int:
+    """How many meters there are."""
+    return 1
+
+
+@pytest.mark.parametrize("meters", [4])
+def test_readings(whole: Whole) -> None:
+    """Readings are acknowledged and stored; each part ends by Ctrl-C."""
+    for meter in whole.meters:
+        assert whole.reading(meter), "a reading is acknowledged"
+    assert whole.await_stored(whole.acknowledged()), "all are stored"
+    for part in (whole.readings, whole.gateways, whole.applications):
+        assert part.end(signal.SIGINT) == 0, f"{part.name} ends by Ctrl-C"
+
+
+def test_event_up(whole: Whole, dashboard: Dashboard) -> None:
+    """What an event `up` says."""
+    meter = whole.meters[0]
+    assert whole.reading(meter)
+    await_that("an event", lambda: dashboard.of(meter.dev_eui, "up"))
+    body = dashboard.of(meter.dev_eui, "up")[0]
+    device = {"applicationId": str(APPLICATION), "devEui": meter.dev_eui.lower()}
+    assert body["deviceInfo"] == device
+    came = [body[name] for name in ("fCnt", "fPort", "dr", "joinNonce", "copies")]
+    assert came == [0, 7, 5, 1, 3], "fCnt, fPort, dr, joinNonce, copies"
+    assert base64.b64decode(body["data"]) == meter.sent[Reading(meter.dev_eui, 1, 0)]
+    best = {"gatewayId": GATEWAYS[0].lower(), "rssi": -70, "snr": 8.0}
+    assert body["rxInfo"] == [best]
+    lora = {"bandwidth": 125000, "spreadingFactor": 7, "codeRate": "CR_4_5"}
+    assert body["txInfo"] == {"frequency": 868100000, "modulation": {"lora": lora}}
+
+
+def item_for(meter: Meter, payload: bytes) -> dict:
+    """A confirmed item."""
+    data = base64.b64encode(payload).decode()
+    return {"devEui": meter.dev_eui.lower(), "fPort": 7, "confirmed": True, "data": data}
+
+
+def test_item(whole: Whole, dashboard: Dashboard) -> None:
+    """An item goes down, and is acknowledged."""
+    meter, name = whole.meters[0], "3ac7e3c4-4401-4b8d-9386-a5c902f9202d"
+    dashboard.down(meter.dev_eui, id=name, **item_for(meter, b"\xc0\xff\xee"))
+    await_that("queued", lambda: dashboard.of(meter.dev_eui, "queued"))
+    assert whole.reading(meter), "a reading, and the item after it"
+    assert meter.items == [b"\xc0\xff\xee"]
+    assert whole.reading(meter), "a reading that acknowledges"
+    await_that("the acknowledgement", lambda: dashboard.of(meter.dev_eui, "ack"))
+    came = dashboard.of(meter.dev_eui, "ack")[0]
+    assert (came["queueItemId"], came["acknowledged"]) == (name, True)
+
+
+def test_lost_item(whole: Whole, dashboard: Dashboard) -> None:
+    """An item goes down, and its meter doesn't acknowledge it."""
+    meter = whole.meters[0]
+    dashboard.down(meter.dev_eui, id=str(TAG), **item_for(meter, b"\xc0\xff\xee"))
+    await_that("queued", lambda: dashboard.of(meter.dev_eui, "queued"))
+    assert whole.reading(meter), "a reading, and the item after it"
+    meter.owes_ack = False
+    assert whole.reading(meter), "a reading that doesn't acknowledge"
+    await_that("the loss", lambda: dashboard.of(meter.dev_eui, "ack"))
+    came = dashboard.of(meter.dev_eui, "ack")[0]
+    assert (came["queueItemId"], came["tag"], came["acknowledged"]) == (str(TAG), TAG, False)
+
+
+def test_refused_items(whole: Whole, dashboard: Dashboard) -> None:
+    """Items that the network refuses, and commands that aren't in the format. An item that comes
+    twice under one id is queued once."""
+    device = whole.meters[0].dev_eui
+    dashboard.down("00000000000000FF", fPort=7, data="AA==")
+    dashboard.down(device, fPort=0, data="AA==")
+    dashboard.down(device, fPort=7, data=base64.b64encode(bytes(243)).decode())
+    topic = f"application/{APPLICATION}/device/{device}/command/down"
+    for wrong in WRONG_COMMANDS:
+        dashboard.say(topic, wrong)
+    dashboard.say(topic.replace(device, "0x" + "0" * 14), b"{}")
+    for name in ("the same", "the same", "last"):
+        dashboard.down(device, fPort=8, data="AA==", id=name)
+    queued = lambda: [body["queueItemId"] for body in dashboard.of(device, "queued")]
+    await_that("queued", lambda: "last" in queued())
+    assert queued() == ["the same", "last"]
+    codes = [body["code"] for _, kind, body in dashboard.events if kind == "log"]
+    assert codes == ["UNKNOWN_DEVICE", "BAD_PORT", "DOWNLINK_PAYLOAD_SIZE"]
+
+
+def wrong_events(good: dict) -> list:
+    """Events that readings can't store."""
+    wrong: list = [{**good, "fCnt": count} for count in (-1, 2**64, "7", 1.5)]
+    wrong += [{**good, "joinNonce": count} for count in (-1, 2**24, 2**64, "7", True)]
+    wrong += [{**good, "deviceInfo": {"devEui": eui}} for eui in (7, "\ud800", "B1", None)]
+    wrong += [{**good, "data": text} for text in (7, "*", "\u00e4", "A")]
+    return wrong + [{**good, "time": "\ud800"}, {"deviceInfo": 7}, {}, []]
+
+
+def test_wrong_events(whole: Whole, dashboard: Dashboard) -> None:
+    """An event that comes twice is stored once; what is no event is passed over."""
+    meter = whole.meters[0]
+    assert whole.reading(meter)
+    assert whole.await_stored(whole.acknowledged())
+    await_that("an event", lambda: dashboard.of(meter.dev_eui, "up"))
+    before, good = whole.stored(), dashboard.of(meter.dev_eui, "up")[0]
+    topic = f"application/{APPLICATION}/device/{meter.dev_eui.lower()}/event/up"
+    bodies = [json.dumps(body).encode() for body in (*wrong_events(good), good)]
+    for text in (b"", b"\xff", b"[" * 60000, *bodies):
+        dashboard.say(topic, text)
+    assert whole.reading(meter), "another reading"
+    assert whole.await_stored(whole.acknowledged()), "it is stored"
+    assert len(whole.stored()) - len(before) == 1, "readings that are new"
+
+
+def test_retained_command(whole: Whole, dashboard: Dashboard) -> None:
+    """A command that a broker retains is done when it comes, and not again at each new start."""
+    device = whole.meters[0].dev_eui
+    topic = f"application/{APPLICATION}/device/{device.lower()}/command/down"
+    dashboard.client.publish(topic, b'{"fPort":9,"data":"AA=="}', 1, retain=True)
+    await_that("queued", lambda: dashboard.of(device, "queued"))
+    whole.applications.kill()
+    whole.applications.start("devices are there")
+    dashboard.down(device, fPort=9, data="AQ==", id="last")
+    await_that("the last one", lambda: len(dashboard.of(device, "queued")) > 1)
+    came = [body["queueItemId"] == "last" for body in dashboard.of(device, "queued")]
+    assert came == [False, True]
+
+
+@pytest.mark.parametrize("meters", [4])
+def test_devices_again(whole: Whole) -> None:
+    """The same file again, with a new line and a wrong one."""
+    part, other = whole.applications, Meter(99)
+    said = len(part.said())
+    with open(whole.file, "a", encoding="utf-8") as file:
+        file.write(f"{other.row()}\nno device\n# a comment\n\n")
+    part.send_signal(signal.SIGHUP)
+    await_that("told", lambda: part.has_said("devices are there", said))
+    told = [line.partition("  ")[2] for line in part.said()[said:].splitlines()]
+    assert f"line 6: {other.dev_eui} is provisioned, in slot 4" in told
+    assert "line 7: 1 fields, and not 3 to 5" in told
+    assert told[-1].endswith("5 devices are there, 1 aren't")
+
+
+class Stored:
+    """Readings that are stored, of events that come on a broker."""
+
+    def __init__(self, parts: Parts) -> None:
+        parts.broker().start("running")
+        self.database, at = parts.file("readings.db"), f"{HOST}:{parts.broker_port}"
+        words = ("--db", self.database, "--broker", at, "--application", APPLICATION)
+        self.part = parts.own("readings", *words).start("connected")
+        self.dashboard = Dashboard(parts.broker_port)
+
+    def say(self, readings: Iterable[tuple[str, int, int]]) -> None:
+        """Events of readings: the device, JoinNonce, counter."""
+        for device, session, counter in readings:
+            body = {"time": "now", "deviceInfo": {"devEui": device}, "joinNonce": session}
+            body |= {"fCnt": counter, "fPort": 7, "data": "AA=="}
+            topic = f"application/{APPLICATION}/device/{device}/event/up"
+            self.dashboard.say(topic, json.dumps(body).encode())
+
+    def prints(self, option: str) -> tuple[int, str, str]:
+        """What it prints of its database."""
+        return run("readings", "--db", self.database, option)
+
+
+@pytest.fixture
+def stored(parts: Parts) -> Iterator[Stored]:
+    """A program that stores readings."""
+    made = Stored(parts)
+    with made.dashboard:
+        yield made
+
+
+def test_join_nonces(stored: Stored) -> None:
+    """The highest JoinNonce of each device that is stored, also while readings are stored."""
+    assert stored.prints("--join-nonces") == (0, f"{HEAD}\n", ""), "before a reading"
+    stored.say(SESSIONS)
+    due = (0, "\n".join([HEAD, *HIGHEST]) + "\n", "")
+    await_that("all are stored", lambda: stored.prints("--join-nonces") == due)
+    assert stored.part.end() == 0
+    assert stored.prints("--join-nonces") == due, "of a database that nobody has open"
+
+
+# readings: the device, JoinNonce, counters; and what is printed of them
+COUNTERS = (
+    ("70b3d57ed0000001", 1, (0, 1, 2)),
+    # a later session begins again
+    ("70b3d57ed0000001", 2, (0, 1)),
+    # three at the front are missing, and one in the middle
+    ("70b3d57ed0000002", 7, (3, 5)),
+    ("70b3d57ed0000003", 1, (0,)),
+)
+REPORT = (
+    "70B3D57ED0000001 stored 5 missing 0",
+    "70B3D57ED0000002 stored 2 missing 4",
+    "70B3D57ED0000003 stored 1 missing 0",
+    "readings 8 missing 4",
+)
+
+
+def test_report(stored: Stored) -> None:
+    """How many readings are stored of each device, and how many counters are missing, of each
+    session from 0 on."""
+    marks = [(dev, session, each) for dev, session, counters in COUNTERS for each in counters]
+    stored.say(marks)
+    due = (0, "\n".join(REPORT) + "\n", "")
+    await_that("all are stored", lambda: stored.prints("--report")[1].count("stored") == 3)
+    await_that("the last one", lambda: REPORT[2] in stored.prints("--report")[1])
+    assert stored.prints("--report") == due
+
+
+def test_readings_while_away(stored: Stored) -> None:
+    """The broker keeps readings while the program that stores them is away."""
+    assert stored.part.end() == 0
+    stored.say(SESSIONS[:1])
+    stored.part.start("connected")
+    await_that("it is stored", lambda: ",9" in stored.prints("--join-nonces")[1])

@@ -1,0 +1,173 @@
+"""What Prometheus reads: the server's numbers, and those that alerts speak of."""
+
+import os
+import re
+import time
+from pathlib import Path
+from typing import Any
+
+from bozintar.processes import HOST
+
+from .field import GATEWAYS
+from .parts import PILOT, Pilot, run
+
+# a line of Prometheus' text format that has a number
+SAMPLE = re.compile(r'([a-zA-Z_:][a-zA-Z0-9_:]*)(\{[a-z]+="(?:[^"\\\n]|\\["\\n])*"\})? (\S+)')
+STATUS = """listening 1:2
+made 7
+windows 3 and later words
+longest_sync_us 1500
+last_copy_00000000000000B1 2500
+later-one 9
+last_copy_00000000000000B2 3500
+odd a"b\\c
+"""
+# lines of a status that alerts speak of
+LINES = [
+    *("gateways", "applications", "made", "dropped", "faulted", "taken_over", "silent", "devices"),
+    *("slots", "waiting", "longest_sync_us", f"last_copy_{GATEWAYS[0]}"),
+]
+DUE = {
+    "lnsd_up": 1.0,
+    "lnsd_listening": 1.0,
+    "lnsd_decisions_total": 7.0,
+    "lnsd_windows": 3.0,
+    "lnsd_longest_sync_seconds": 0.0015,
+    'lnsd_last_copy_seconds{gateway="00000000000000B1"}': 2.5,
+    'lnsd_last_copy_seconds{gateway="00000000000000B2"}': 3.5,
+    "lnsd_later_one": 9.0,
+    "lnsd_odd": 1.0,
+}
+
+
+def samples(text: str) -> dict[str, float]:
+    """The numbers of a text: those of a name stand behind its help and its type, once."""
+    found: dict[str, float] = {}
+    told: list[tuple] = []
+    for line in text.splitlines():
+        if line.startswith("# "):
+            told.append(tuple(line.split(" ")[1:3]))
+            continue
+        sample = SAMPLE.fullmatch(line)
+        assert sample, line
+        name, labels, value = sample.groups()
+        by_gateway = labels if labels and labels.startswith("{gateway=") else ""
+        found[name + by_gateway] = float(value)
+        assert told[-2:] == [("HELP", name), ("TYPE", name)], f"{name} stands with its own"
+    assert len(told) == len(set(told)), "helps and types, each once"
+    return found
+
+
+def metrics(*words: Any) -> tuple[int, str, str]:
+    """Runs pilot/metrics."""
+    return run("metrics", *words, timeout=60)
+
+
+def played(folder: Path, script: str) -> str:
+    """A program in the place of lnsd."""
+    file = folder / "played"
+    file.write_text(f"#!/bin/sh\n{script}\n", encoding="utf-8")
+    file.chmod(0o755)
+    return str(file)
+
+
+def test_numbers_of_a_server(pilot: Pilot) -> None:
+    """The numbers of a server that runs, printed or in a file, and of one that has ended."""
+    words = (pilot.program.store, "--lnsd", pilot.program.path)
+    status, text, said = metrics(*words)
+    assert (status, said) == (0, "")
+    came = samples(text)
+    assert (came["lnsd_up"], came["lnsd_places"]) == (1, 96)
+    file = pilot.file("lnsd.prom")
+    assert metrics(*words, "--out", file) == (0, "", "")
+    assert samples(Path(file).read_text(encoding="utf-8")) == came
+    pilot.program.stop()
+    assert samples(metrics(*words)[1]) == {"lnsd_up": 0}
+
+
+def test_numbers_of_a_later_server(folder: Path) -> None:
+    """Lines of a status that this version doesn't know are numbers too."""
+    program = played(folder, f"printf '%s' '{STATUS}'")
+    assert samples(metrics("store", "--lnsd", program)[1]) == DUE
+
+
+def test_no_program() -> None:
+    """There is no lnsd: one line, and no numbers."""
+    status, _, said = metrics("store", "--lnsd", "/nowhere/lnsd")
+    assert (status, said.count("\n")) == (1, 1)
+
+
+# the names of numbers that alerts speak of
+ALERTS = re.findall(r"\b(?:lnsd|pilot)_[a-z_0-9]+", (PILOT / "alerts.yml").read_text("utf-8"))
+BRIDGES = {
+    "gateways-udp": ("--udp", "listens on"),
+    "gateways-mqtt": ("--broker", "connected to"),
+    "applications-mqtt": ("--broker", "connected to"),
+}
+
+
+def of_metrics(folder: Path) -> set[str]:
+    """The names of the numbers that pilot/metrics gives."""
+    program = played(folder, "\n".join(f"echo {line} 1" for line in LINES))
+    (folder / "none.crt").write_text("no certificate", encoding="utf-8")
+    text = metrics("store", "--lnsd", program, "--certificates", folder)[1]
+    return {name.split("{")[0] for name in samples(text)}
+
+
+def of_bridge(pilot: Pilot, name: str) -> set[str]:
+    """The names of the numbers that a bridge writes."""
+    option, ready = BRIDGES[name]
+    port = pilot.udp_port if option == "--udp" else pilot.broker_port
+    whose = ("--application", "3") if name.startswith("app") else ("--gateway", GATEWAYS[0])
+    file = pilot.file(f"{name}.prom")
+    words = ("--network", pilot.network, option, f"{HOST}:{port}", *whose, "--counts", file)
+    pilot.own(name, *words).start(ready).end()
+    return set(samples(Path(file).read_text(encoding="utf-8")))
+
+
+def test_alerts(pilot: Pilot, folder: Path) -> None:
+    """Each alert speaks of numbers that there are."""
+    pilot.broker().start("running")
+    found = of_metrics(folder).union(*(of_bridge(pilot, name) for name in BRIDGES))
+    assert set(ALERTS) <= found, "names that alerts use, and that are numbers"
+
+
+def test_copied_counts(folder: Path) -> None:
+    """Counts of bridges are copied as old as they are; a link isn't followed, nor is a pipe waited
+    for; copies of bridges that have ended go, and nothing else does."""
+    run, to = folder / "run", folder / "out"
+    to.mkdir()
+    for name in ("applications-mqtt-4", "other"):
+        (to / f"{name}.prom").write_text("old 1\n", encoding="utf-8")
+    names = ("gateways-udp", "gateways-mqtt", "applications-mqtt-3")
+    sources = [run / f"bozintar-{name}" / f"{name}.prom" for name in names]
+    for source in sources:
+        source.parent.mkdir(parents=True)
+    sources[0].write_text("new 1\n", encoding="utf-8")
+    sources[0].chmod(0o600)
+    os.utime(sources[0], (1000, 1000))
+    sources[1].symlink_to(to / "other.prom")
+    os.mkfifo(sources[2])
+    words = ("store", "--lnsd", "/bin/false", "--out", to / "lnsd.prom", "--counts", run)
+    status, _, said = metrics(*words)
+    assert (status, said.count("\n")) == (1, 2), "two lines about what isn't copied"
+    due = ["gateways-udp.prom", "lnsd.prom", "other.prom"]
+    assert sorted(os.listdir(to)) == due
+    copy = (to / due[0]).stat()
+    assert (copy.st_mtime, copy.st_mode & 0o777) == (1000, 0o644), "age and mode"
+    assert (to / due[0]).read_text(encoding="utf-8") == "new 1\n"
+
+
+def test_ends_of_certificates(folder: Path) -> None:
+    """When certificates end; one that can't be read has ended, and no folder is none."""
+    assert run("secure/certificates", folder, "authority", "--days", "10")[0] == 0
+    (folder / "none.crt").write_text("no certificate", encoding="utf-8")
+    words = ["--certificates", folder, "--certificates", "/nowhere"]
+    said = metrics("store", "--lnsd", "/bin/false", *words)[1].splitlines()
+    came = dict(line.rsplit(" ", 1) for line in said if not line.startswith("#"))
+    name = 'pilot_certificate_end_seconds{file="%s/%s.crt"}'
+    due = {name % (folder, authority) for authority in ("ca", "none")}
+    assert set(came) == {"lnsd_up"} | due
+    ends = sorted(int(float(came[name])) for name in due)
+    assert ends[0] == 0, "of what is none"
+    assert abs(ends[1] - time.time() - 10 * 86400) < 600, "of the authority's"
