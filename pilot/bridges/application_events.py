@@ -69,7 +69,7 @@ class Item:
         identifier = said.get("id") or ""
         if not isinstance(identifier, str) or len(identifier) > 64:
             raise Wrong("id is no text of at most 64 characters")
-        # a longer one is refused by the network, which tells why
+        # a longer one is refused by the network, which sends the reason
         payload = fields.payload({"data": said.get("data", "")}, "data", MOST_ITEM + 1)
         return cls(device, identifier, port, confirmed, payload)
 
@@ -208,4 +208,4 @@ def refusal(line: str) -> tuple[str, str]:
     if not found:
         return "REFUSED", "the network doesn't say why"
     number = int(found[1])
-    return REFUSALS.get(number, (f"REFUSED_{number}", "docs/FORMATS.md tells what it means"))
+    return REFUSALS.get(number, (f"REFUSED_{number}", "docs/FORMATS.md explains it"))

@@ -88,7 +88,7 @@ def item(downlink: Downlink, window: Window, context: bytes, power: int) -> dict
 
 
 def command(downlink: Downlink, number: int, context: bytes, powers: tuple[int, int]) -> bytes:
-    """A command `down`: the gateway tries its items in turn, so that RX2 is behind RX1."""
+    """A command `down`: the gateway tries its items in turn, so that RX2 is after RX1."""
     windows = zip((downlink.rx1, downlink.rx2), powers)
     items = [item(downlink, window, context, power) for window, power in windows if window]
     names = {"downlinkId": number, "gatewayId": downlink.gateway.lower()}

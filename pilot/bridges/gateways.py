@@ -1,4 +1,4 @@
-"""What bridges of gateways share: who is named, a link for each gateway that isn't silent, and the
+"""What bridges of gateways share: which gateways are named, a link for each gateway that isn't silent, and the
 options of their commands."""
 
 import argparse
@@ -19,7 +19,7 @@ COUNTED = {
     "too_many": "frames beyond 200 a second of a gateway, which weren't handed in",
     "without_crc": "frames whose CRC was wrong, or that had none",
     "other_modulations": "frames that aren't LoRa of 125 kHz",
-    "downlinks": "downlinks that gateways were told to send",
+    "downlinks": "downlinks sent to gateways",
     "sent": "downlinks that gateways said they sent",
     "not_sent": "downlinks that gateways said they couldn't send",
     "out_of_time": "downlinks for an uplink that isn't known, or of another time",

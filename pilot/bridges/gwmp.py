@@ -60,7 +60,7 @@ class Datagram:
 
 
 def response(version: int, token: bytes, txpk: dict) -> bytes:
-    """The datagram that tells a gateway to send."""
+    """The datagram by which a gateway sends a frame."""
     head = bytes([version]) + token + bytes([Kind.PULL_RESP])
     return head + fields.compact({"txpk": txpk})
 
@@ -79,7 +79,7 @@ def heard_in(body: bytes) -> list:
 
 
 def frame_in(gateway: str, rxpk: Any) -> Heard:
-    """A frame that was heard. Of other frames than the network's, `OtherFrame` tells the kind."""
+    """A frame that was heard. For frames other than the network's, `OtherFrame` has the kind."""
     rxpk = fields.table(rxpk)
     if rxpk.get("stat") != 1:
         raise OtherFrame("without_crc")

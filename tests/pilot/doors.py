@@ -76,7 +76,7 @@ class Doors:
         self.port, self.log = free_port(), pilot.file("door.log")
 
     def conf(self, name: str, *changes: tuple[str, str]) -> str:
-        """A file of pilot/secure, where it lies here."""
+        """The path of a file of pilot/secure."""
         text = (PILOT / "secure" / name).read_text(encoding="utf-8")
         for old, new in changes:
             if old not in text:
@@ -151,7 +151,7 @@ def application(number: int) -> bytes:
 
 
 def ended(connection: socket.socket) -> bool:
-    """Whether a connection ends, whatever comes before."""
+    """Whether a connection ends, after any bytes."""
     try:
         while connection.recv(1000):
             pass

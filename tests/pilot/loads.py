@@ -19,7 +19,7 @@ from .parts import Pilot
 GATEWAYS, DEVICES, APPLICATION = 64, 512, 0
 WINDOW = 0.2
 PULLS_EVERY = 5.0
-# behind the last reading, how long the rest is waited for, in seconds
+# how long the rest is waited for after the last reading, in seconds
 REST = 10.0
 
 
@@ -28,7 +28,7 @@ def gateway_eui(number: int) -> str:
 
 
 def frames(count: int) -> list[tuple[int, bytes]]:
-    """So many confirmed readings, of all devices in turn, each with the gateway that hears it."""
+    """This many confirmed readings, of all devices in turn, each with the gateway that hears it."""
     devices, made = [load.device(number) for number in range(DEVICES)], []
     for place in range(count):
         number, counter = place % DEVICES, 1 + place // DEVICES

@@ -19,7 +19,7 @@ STATS_EVERY = 1.0
 
 
 class Station(Client):
-    """A gateway behind a gateway bridge of its own."""
+    """A gateway with its own gateway bridge."""
 
     def __init__(self, eui: str, port: int, prefix: str = "eu868") -> None:
         self.name, self.eui, self.prefix = eui, eui.lower(), prefix

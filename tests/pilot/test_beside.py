@@ -85,7 +85,7 @@ def test_answer_with_a_word_more(bridge: Bridge) -> None:
 
 
 def test_unanswered_item(bridge: Bridge) -> None:
-    """A link ends before an answer: the item is told by its id if it waits all the same."""
+    """A link ends before an answer: the item is reported by its id if it waits all the same."""
     bridge.dashboard.down(FIRST, fPort=7, data="AA==", id="z")
     tag = bridge.link.asked()[2]
     bridge.link.close()
@@ -119,7 +119,7 @@ def test_command_while_away(bridge: Bridge) -> None:
 
 
 def ends_well(bridge: Bridge, *lines: str) -> None:
-    """The bridge is told to end, and ends what it says; lines that come on its link then."""
+    """The bridge gets SIGTERM, and ends what it sends; lines that come on its link then."""
     bridge.part.send_signal(signal.SIGTERM)
     assert bridge.link.hears() is None, "the end of its link"
     bridge.link.tell(*lines)
@@ -128,7 +128,7 @@ def ends_well(bridge: Bridge, *lines: str) -> None:
 
 
 def test_end(bridge: Bridge) -> None:
-    """A bridge that is told to end takes what is in its link; a later run has other tags."""
+    """A bridge that gets SIGTERM takes what is in its link; a later run has other tags."""
     tag = int(bridge.queued(FIRST, "x"))
     bridge.link.tell(*map(up, range(300)))
     ends_well(bridge, *map(up, range(300, 305)))
@@ -141,7 +141,7 @@ def test_end(bridge: Bridge) -> None:
 
 
 def test_commands_at_the_end(bridge: Bridge) -> None:
-    """What becomes of commands that wait at the end is told and counted."""
+    """What becomes of commands that wait at the end is reported and counted."""
     for text in "abcd":
         bridge.dashboard.down(FIRST, fPort=7, data="AA==", id=text)
     bridge.link.asked()

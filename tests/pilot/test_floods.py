@@ -29,7 +29,7 @@ FRAMES = (
     (1009.015625, 9, 3),
     (1e6, 401, 400),
 )
-# a flood: so many datagrams of so many frames each, or as many events
+# a flood: this many datagrams of this many frames each, or as many events
 DATAGRAMS, EACH = 20, 100
 SENT = DATAGRAMS * EACH
 NAMED = [word for eui in GATEWAYS[:2] for word in ("--gateway", eui)]
@@ -71,7 +71,7 @@ class Flood:
 
     def compare(self, counts: dict, wrong: str) -> None:
         """Ends the bridge, and compares what came of both gateways, and what was counted and
-        told."""
+        printed."""
         seconds = time.monotonic() - self.begun
         told = [line.partition("  ")[2] for line in self.part.said().splitlines()]
         due = f"gateway {GATEWAYS[0]} says more than {RATE} frames a second; the rest is dropped"

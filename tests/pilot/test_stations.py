@@ -26,7 +26,7 @@ def test_each_data_rate(by_stations: ByStations) -> None:
 
 @pytest.mark.parametrize("meters", [1])
 def test_second_window(by_stations: ByStations) -> None:
-    """What a gateway is told of RX1, and of RX2 after it."""
+    """What a gateway gets for RX1, and for RX2 after it."""
     first, meter = by_stations.air.gateways[0], by_stations.meters[0]
     first.errors.append("TOO_LATE")
     frame, mark = meter.reads(), meter.awaited

@@ -10,7 +10,7 @@ ROUNDS = 200
 
 @pytest.fixture
 def chance(seed: int) -> random.Random:
-    """Numbers by chance."""
+    """Random numbers."""
     return random.Random(seed)
 
 
