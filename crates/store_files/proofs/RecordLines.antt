@@ -23,3 +23,10 @@ no_comma eui i lt e =
 pub parted : (line : List ℕ) (r : Option (Bor (List ℕ) × Bor (List ℕ))) (s : SessionName) → IsSplitOnceResult 44 line r → line ≡ session_text s
     → MatchOption r ⊥ (λ x. (x.0.now ≡ eui_text s.dev_eui) × (x.1.now ≡ decimal s.join_nonce))
 parted line r s h is = split_after 44 line (eui_text s.dev_eui) (decimal s.join_nonce) r h (omega arith) is (no_comma s.dev_eui)
+
+pub same : {A : Type 0} (a b : A) → Some a ≡ Some b → a ≡ b
+same a b e = cc e
+
+-- a JoinNonce that is read isn't refused
+pub is_granted : (v n : ℕ) → (0 < n) × (n < 2 ^ 24) → v ≡ n → (0 < v) × (v < 2 ^ 24)
+is_granted v n range e = (omega (arith, range.0, e), omega (arith, range.1, e))
