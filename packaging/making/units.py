@@ -6,7 +6,7 @@ import re
 LIB = "usr/lib/bozintar"
 SERVER, BRIDGES = "/etc/bozintar/lnsd.conf", "/etc/bozintar/bridges.conf"
 
-# What is replaced in every unit, where it stands.
+# What is replaced in every unit that has it.
 EVERYWHERE = {
     "/usr/local/bin/lnsd": "/usr/bin/lnsd",
     "/opt/bozintar/pilot": f"/{LIB}/pilot",

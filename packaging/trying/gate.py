@@ -22,7 +22,7 @@ HOST = "127.0.0.1"
 
 
 def built(top: Path, out: Path, *words: str) -> Path:
-    """Builds the package; where it is."""
+    """Builds the package and returns its path."""
     needed(top / "bin/package", "--out", out, *words)
     found = list(out.glob("*.deb"))
     if len(found) != 1:
@@ -122,7 +122,7 @@ def free_port(kind: int = socket.SOCK_STREAM) -> int:
 
 
 def start_server(trials: Trials, tree: Path, room: Path) -> str:
-    """Makes a store and serves it; where it listens."""
+    """Makes a store and serves it. Returns the address."""
     lnsd, store = tree / "usr/bin/lnsd", room / "store"
     needed(lnsd, "format", store, "--netid", "000000", "--slots", "8")
     words = (lnsd, "run", store, "--listen", f"{HOST}:0")
