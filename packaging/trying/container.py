@@ -1,4 +1,4 @@
-"""A Debian 12 in a folder, which boots by systemd-nspawn without any network but its own loopback."""
+"""A Debian 12 in a folder, which boots by systemd-nspawn and has no network beyond loopback."""
 
 import os
 import shutil

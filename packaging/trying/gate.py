@@ -151,7 +151,7 @@ def start_broker(trials: Trials, tree: Path, room: Path) -> int:
 
 
 def try_reading(trials: Trials, tree: Path, room: Path) -> None:
-    """A reading goes from a played gateway to MQTT and to SQLite, by the unpacked programs alone."""
+    """A reading goes from a played gateway to MQTT and to SQLite, by the unpacked programs."""
     programs, devices, db = tree / "usr/bin", room / "devices.csv", room / "readings.db"
     devices.write_text(needed(programs / "bozintar-play", "--device"), encoding="utf-8")
     network, port = start_server(trials, tree, room), start_broker(trials, tree, room)
