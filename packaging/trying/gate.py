@@ -19,11 +19,16 @@ CONFFILES = {f"/etc/bozintar/{it}" for it in ("bridges.conf", "gateways", "lnsd.
 # Where the package may have files.
 PLACES = ("etc/bozintar/", "lib/systemd/system/", "usr/")
 HOST = "127.0.0.1"
+# What runs the second build: another time zone, language, umask and folder for temporary files.
+ELSEWHERE = (
+    *("env", "TZ=Asia/Tokyo", "LC_ALL=C", "TMPDIR=/var/tmp", "sh", "-c"),
+    *('umask 077; exec "$0" "$@"',),
+)
 
 
-def built(top: Path, out: Path, *words: str) -> Path:
-    """Builds the package and returns its path."""
-    needed(top / "bin/package", "--out", out, *words)
+def built(top: Path, out: Path, *words: str, by: tuple[str, ...] = ()) -> Path:
+    """Builds the package, by another program that runs bin/package, and returns its path."""
+    needed(*by, top / "bin/package", "--out", out, *words)
     found = list(out.glob("*.deb"))
     if len(found) != 1:
         raise Broken(f"bin/package made {len(found)} packages")
@@ -32,7 +37,7 @@ def built(top: Path, out: Path, *words: str) -> Path:
 
 def try_builds(trials: Trials, top: Path, room: Path, words: list[str]) -> Path:
     """Two builds are equal, and small enough."""
-    one, two = (built(top, room / it, *words) for it in ("one", "two"))
+    one, two = built(top, room / "one", *words), built(top, room / "two", *words, by=ELSEWHERE)
     sums = [hashlib.sha256(it.read_bytes()).hexdigest() for it in (one, two)]
     trials.same("the checksum of the second build", sums[1], sums[0])
     size = one.stat().st_size
