@@ -20,10 +20,8 @@ CONFFILES = {f"/etc/bozintar/{it}" for it in ("bridges.conf", "gateways", "lnsd.
 PLACES = ("etc/bozintar/", "lib/systemd/system/", "usr/")
 HOST = "127.0.0.1"
 # What runs the second build: another time zone, language, umask and folder for temporary files.
-ELSEWHERE = (
-    *("env", "TZ=Asia/Tokyo", "LC_ALL=C", "TMPDIR=/var/tmp", "sh", "-c"),
-    *('umask 077; exec "$0" "$@"',),
-)
+UMASK = 'umask 077; exec "$0" "$@"'
+ELSEWHERE = ("env", "TZ=Asia/Tokyo", "LC_ALL=C", "TMPDIR=/var/tmp", "sh", "-c", UMASK)
 
 
 def built(top: Path, out: Path, *words: str, by: tuple[str, ...] = ()) -> Path:
@@ -56,10 +54,12 @@ def try_lintian(trials: Trials, package: Path) -> None:
     trials.step("lintian")
 
 
-def try_files(trials: Trials, tree: Path, control: Path) -> None:
-    """Modes and places of the files, and the conffiles."""
+def try_files(trials: Trials, top: Path, tree: Path, control: Path) -> None:
+    """Modes, times and places of the files, and the conffiles."""
+    moment = int(needed("git", "-C", top, "log", "-1", "--format=%ct"))
     for it in sorted(tree.rglob("*")):
         name, mode = str(it.relative_to(tree)), it.lstat().st_mode
+        trials.same(f"the time of {name}", int(it.lstat().st_mtime), moment)
         if it.is_dir() or it.is_symlink():
             is_well = it.exists()
         else:
@@ -204,7 +204,7 @@ def try_all(trials: Trials, top: Path, room: Path, words: list[str]) -> None:
     needed("dpkg-deb", "-x", package, tree)
     needed("dpkg-deb", "-e", package, control)
     try_lintian(trials, package)
-    try_files(trials, tree, control)
+    try_files(trials, top, tree, control)
     try_commands(trials, top, tree, "--unproved" not in words)
     try_units(trials, tree, room)
     try_reading(trials, tree, room)
