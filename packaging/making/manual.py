@@ -1,4 +1,4 @@
-"""Man pages, made from what a program's --help prints: that of clap, of argparse, or a docstring."""
+"""Man pages, made from what --help prints, be it of clap, of argparse, or a docstring."""
 
 import re
 import time

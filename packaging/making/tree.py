@@ -172,10 +172,11 @@ def put_units(tree: Tree) -> None:
 
 def put_documents(tree: Tree, files: Path) -> None:
     """Puts documents, examples and settings."""
-    for it in ("README.md", "CHANGELOG.md", "SECURITY.md", *tree.tracked("docs/*.md")):
-        if (tree.top / it).exists():
-            tree.copy(it, f"{DOC}/{Path(it).name}")
+    for it in ("README.md", "SECURITY.md", *tree.tracked("docs/*.md")):
+        tree.copy(it, f"{DOC}/{Path(it).name}")
     tree.copy("pilot/README.md", f"{DOC}/PILOT.md")
+    # dh_installchangelogs would take a CHANGELOG for Debian's own
+    tree.copy("CHANGELOG.md", f"{DOC}/NEWS.md")
     for it in tree.tracked("pilot"):
         if it.endswith(EXAMPLES):
             tree.copy(it, f"{DOC}/examples/{Path(it).name}")

@@ -1,5 +1,5 @@
-"""The package's units: those of the repository, with Debian's folders, users that stay, and settings
-in /etc/bozintar."""
+"""The package's units: those of the repository, with Debian's folders, users that stay, and
+settings in /etc/bozintar."""
 
 import re
 
@@ -20,8 +20,8 @@ EVERYWHERE = {
 # What is replaced in one unit, each exactly once.
 ONCE = {
     "lnsd.service": {
-        # status 0 of this lets lnsd run fail by status 1, since there is no store, and then the unit
-        # waits for its operator; format itself is tried again each second, after status 1
+        # With status 0 of this, but no store, lnsd run ends with status 1, and the unit waits for
+        # its operator. Only after status 1 of this the unit tries again, each second.
         '\'test -e "$0" || \\\n    exec /usr/bin/lnsd format "$0" --netid 00002A --slots 4096\'': (
             '\'test -e "$0" && exit; test -n "$NETID" || { \\\n'
             f'    echo "NETID is not set: set it in {SERVER}" >&2; exit 0; }}; \\\n'

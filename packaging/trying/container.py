@@ -1,4 +1,4 @@
-"""A Debian 12 in a folder, which boots by systemd-nspawn without any network but its own loopback."""
+"""A Debian 12 in a folder, which boots by systemd-nspawn and has no network beyond loopback."""
 
 import os
 import shutil
@@ -31,7 +31,7 @@ def make_base(trials: Trials, base: Path, package: Path) -> None:
 class Container:
     """A root that has booted."""
 
-    def __init__(self, trials: Trials, base: Path, root: Path):
+    def __init__(self, trials: Trials, base: Path, root: Path) -> None:
         needed("cp", "-a", base, root)
         (root / "etc/hosts").write_text("127.0.0.1 localhost\n", encoding="ascii")
         self.root, self.trials = root, trials

@@ -19,11 +19,14 @@ CONFFILES = {f"/etc/bozintar/{it}" for it in ("bridges.conf", "gateways", "lnsd.
 # Where the package may have files.
 PLACES = ("etc/bozintar/", "lib/systemd/system/", "usr/")
 HOST = "127.0.0.1"
+# What runs the second build: another time zone, language, umask and folder for temporary files.
+UMASK = 'umask 077; exec "$0" "$@"'
+ELSEWHERE = ("env", "TZ=Asia/Tokyo", "LC_ALL=C", "TMPDIR=/var/tmp", "sh", "-c", UMASK)
 
 
-def built(top: Path, out: Path, *words: str) -> Path:
-    """Builds the package, and returns its path."""
-    needed(top / "bin/package", "--out", out, *words)
+def built(top: Path, out: Path, *words: str, by: tuple[str, ...] = ()) -> Path:
+    """Builds the package, by another program that runs bin/package, and returns its path."""
+    needed(*by, top / "bin/package", "--out", out, *words)
     found = list(out.glob("*.deb"))
     if len(found) != 1:
         raise Broken(f"bin/package made {len(found)} packages")
@@ -32,7 +35,7 @@ def built(top: Path, out: Path, *words: str) -> Path:
 
 def try_builds(trials: Trials, top: Path, room: Path, words: list[str]) -> Path:
     """Two builds are equal, and small enough."""
-    one, two = (built(top, room / it, *words) for it in ("one", "two"))
+    one, two = built(top, room / "one", *words), built(top, room / "two", *words, by=ELSEWHERE)
     sums = [hashlib.sha256(it.read_bytes()).hexdigest() for it in (one, two)]
     trials.same("the checksum of the second build", sums[1], sums[0])
     size = one.stat().st_size
@@ -51,10 +54,12 @@ def try_lintian(trials: Trials, package: Path) -> None:
     trials.step("lintian")
 
 
-def try_files(trials: Trials, tree: Path, control: Path) -> None:
-    """Modes and places of the files, and the conffiles."""
+def try_files(trials: Trials, top: Path, tree: Path, control: Path) -> None:
+    """Modes, times and places of the files, and the conffiles."""
+    moment = int(needed("git", "-C", top, "log", "-1", "--format=%ct"))
     for it in sorted(tree.rglob("*")):
         name, mode = str(it.relative_to(tree)), it.lstat().st_mode
+        trials.same(f"the time of {name}", int(it.lstat().st_mtime), moment)
         if it.is_dir() or it.is_symlink():
             is_well = it.exists()
         else:
@@ -122,7 +127,7 @@ def free_port(kind: int = socket.SOCK_STREAM) -> int:
 
 
 def start_server(trials: Trials, tree: Path, room: Path) -> str:
-    """Makes a store and serves it; the address that it listens on."""
+    """Makes a store and serves it. Returns the address."""
     lnsd, store = tree / "usr/bin/lnsd", room / "store"
     needed(lnsd, "format", store, "--netid", "000000", "--slots", "8")
     words = (lnsd, "run", store, "--listen", f"{HOST}:0")
@@ -151,7 +156,7 @@ def start_broker(trials: Trials, tree: Path, room: Path) -> int:
 
 
 def try_reading(trials: Trials, tree: Path, room: Path) -> None:
-    """A reading goes from a played gateway to MQTT and to SQLite, by the unpacked programs alone."""
+    """A reading goes from a played gateway to MQTT and to SQLite, by the unpacked programs."""
     programs, devices, db = tree / "usr/bin", room / "devices.csv", room / "readings.db"
     devices.write_text(needed(programs / "bozintar-play", "--device"), encoding="utf-8")
     network, port = start_server(trials, tree, room), start_broker(trials, tree, room)
@@ -199,7 +204,7 @@ def try_all(trials: Trials, top: Path, room: Path, words: list[str]) -> None:
     needed("dpkg-deb", "-x", package, tree)
     needed("dpkg-deb", "-e", package, control)
     try_lintian(trials, package)
-    try_files(trials, tree, control)
+    try_files(trials, top, tree, control)
     try_commands(trials, top, tree, "--unproved" not in words)
     try_units(trials, tree, room)
     try_reading(trials, tree, room)
