@@ -61,7 +61,7 @@ class Bridge:
         return self.network.link()
 
     def events(self, kind: str, device: str = FIRST, count: int = 1) -> list[dict]:
-        """The events of a kind of a device, once there are so many."""
+        """The events of a kind of a device, once there are this many."""
         found = lambda: self.dashboard.of(device, kind)
         await_that(f"{count} {kind}", lambda: len(found()) >= count, 10)
         return found()

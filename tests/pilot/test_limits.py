@@ -38,7 +38,7 @@ HELLO, LET_IN = bytes.fromhex("100d00044d5154540402003c000178"), bytes.fromhex("
 
 @contextmanager
 def descriptors(count: int) -> Iterator[None]:
-    """This program, and what it starts, may have so many descriptors."""
+    """This program, and what it starts, may have this many descriptors."""
     before, most = resource.getrlimit(resource.RLIMIT_NOFILE)
     resource.setrlimit(resource.RLIMIT_NOFILE, (count, most))
     try:
@@ -169,7 +169,7 @@ def test_when_the_broker_writes(broker: Doors) -> None:
 
 
 def test_what_waits(broker: Doors) -> None:
-    """The broker keeps so many bytes for a client that is away, and drops what comes then. It keeps
+    """The broker keeps 80 MB for a client that is away, and drops what comes then. It keeps
     them when it is stopped."""
     port, count = broker.pilot.broker_port, WAITING // LONGEST + 50
     kept = Kept(port)

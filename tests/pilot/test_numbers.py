@@ -41,7 +41,7 @@ DUE = {
 
 
 def samples(text: str) -> dict[str, float]:
-    """The numbers of a text: those of a name stand behind its help and its type, once."""
+    """The numbers of a text: those of a name stand after its help and its type, once."""
     found: dict[str, float] = {}
     told: list[tuple] = []
     for line in text.splitlines():

@@ -86,7 +86,7 @@ RXPK: tuple = (
     ({"data": "A" * 344}, Wrong),
 )
 
-# a downlink's content, and what a forwarder is told of each window
+# a downlink's content, and what is sent to a forwarder for each window
 DOWN = b"\x11" + EUI
 DOWNLINKS = (
     ("0000C350 33BE27A0 05 01 02", (1050000, 868.1, "SF7BW125"), (2050000, 869.525, "SF12BW125")),
@@ -161,7 +161,7 @@ def copied(changes: dict) -> Any:
 
 
 def told(content: bytes) -> list:
-    """What a forwarder is told of each window of a downlink."""
+    """What is sent to a forwarder for each window of a downlink."""
     downlink = wire.Downlink.read(content)
     txpk = [
         gwmp.txpk_of(downlink, window, 14) if window else None
@@ -219,7 +219,7 @@ def test_heard(changes: Any, due: Any) -> None:
 
 @table("text, first, second", DOWNLINKS)
 def test_downlink(text: str, first: Any, second: Any) -> None:
-    """What a forwarder is told of each window."""
+    """What is sent to a forwarder for each window."""
     assert told(DOWN + bytes.fromhex(text) + PAYLOAD) == [first, second]
 
 

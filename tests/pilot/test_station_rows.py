@@ -90,7 +90,7 @@ SECOND: dict = {
         "context": "GtzGww==",
     },
 }
-# a downlink's content behind its gateway, and the items of the command
+# a downlink's content after its gateway, and the items of the command
 ORDERS = (("00000007 33BE27A0 05 05 06", [FIRST, SECOND]), ("00000007 33BE27A0 05 05 00", [FIRST]))
 STATUS_TEXTS: tuple = (
     (b'{"items":[{"status":"TOO_LATE"},{"status":"OK"}]}', ["TOO_LATE", "OK"]),
@@ -121,7 +121,7 @@ def test_event_up(changes: Any, due: Any) -> None:
 
 @table("text, items", ORDERS)
 def test_command_down(text: str, items: Any) -> None:
-    """What a gateway is told of a downlink."""
+    """What is sent to a gateway of a downlink."""
     content = b"\x11" + STATION + bytes.fromhex(text) + JOIN
     command = gateway_events.command(wire.Downlink.read(content), 12345, CONTEXT, (16, 27))
     due = {"downlinkId": 12345, "gatewayId": "0016c001f153a14c", "items": items}
