@@ -7,6 +7,8 @@ import re
 import shutil
 import subprocess
 import sys
+from collections.abc import Callable
+from typing import Any
 
 ROOT = os.path.dirname(os.path.dirname(os.path.realpath(__file__)))
 if __name__ == "__main__":
@@ -30,14 +32,14 @@ def need_rt():
 def lines():
     """Each crate's line of crates.txt, in the file's order."""
     with open(f"{ROOT}/crates.txt", encoding="utf-8") as file:
-        told = [it.partition("#")[0].strip() for it in file]
-    return {it.split(":")[0].split()[0]: it for it in told if ":" in it}
+        told = [line.partition("#")[0].strip() for line in file]
+    return {line.split(":")[0].split()[0]: line for line in told if ":" in line}
 
 
 def libraries(of):
     """The repository's libraries that each crate's line names."""
     told = {crate: line.partition(":")[2].split() for crate, line in of.items()}
-    return {crate: [it for it in names if it in told] for crate, names in told.items()}
+    return {crate: [name for name in names if name in told] for crate, names in told.items()}
 
 
 def crate(name):
@@ -50,8 +52,8 @@ def crate(name):
 def below(crate, named):
     """The libraries that a crate stands on, each after its own."""
     found = []
-    for it in named[crate]:
-        found += [more for more in [*below(it, named), it] if more not in found]
+    for lower in named[crate]:
+        found += [more for more in [*below(lower, named), lower] if more not in found]
     return found
 
 
@@ -71,10 +73,10 @@ def sources_of(crate):
     """Each folder below a crate's own, and each source in it."""
     top = f"{ROOT}/crates/{crate}"
     for folder, folders, files in os.walk(top):
-        folders[:] = [it for it in folders if it not in ("out", "must-fail")]
+        folders[:] = [name for name in folders if name not in ("out", "must-fail")]
         if folder != top:
             yield folder
-        yield from (f"{folder}/{it}" for it in files if it.endswith(SOURCES))
+        yield from (f"{folder}/{name}" for name in files if name.endswith(SOURCES))
 
 
 def is_fresh(made, crate):
@@ -83,8 +85,8 @@ def is_fresh(made, crate):
         at = os.stat(made).st_mtime_ns
     except FileNotFoundError:
         return False
-    sources = (it for below in crates_of(crate) for it in sources_of(below))
-    return all(os.stat(it).st_mtime_ns <= at for it in (f"{ROOT}/crates.txt", *sources))
+    sources = (source for below in crates_of(crate) for source in sources_of(below))
+    return all(os.stat(source).st_mtime_ns <= at for source in (f"{ROOT}/crates.txt", *sources))
 
 
 def is_built(crate):
@@ -107,12 +109,17 @@ def program_of(given, crate):
 
 def commit_of(program):
     """Of which commit the sources of a program are."""
-    how = {"stdout": subprocess.PIPE, "stderr": subprocess.DEVNULL, "text": True, "check": False}
+    how: dict[str, Any] = {
+        "stdout": subprocess.PIPE,
+        "stderr": subprocess.DEVNULL,
+        "text": True,
+        "check": False,
+    }
     git = ["git", "-C", ROOT]
     commit = subprocess.run([*git, "rev-parse", "--verify", "HEAD"], **how).stdout.strip()
     if not commit:
         return "a commit that isn't known"
-    paths = ["crates.txt", *(f"crates/{it}" for it in crates_of(program))]
+    paths = ["crates.txt", *(f"crates/{crate}" for crate in crates_of(program))]
     changed = subprocess.run([*git, "status", "--porcelain", "--", *paths], **how).stdout
     return f"commit {commit}" + ", with changes" * bool(changed)
 
@@ -133,10 +140,11 @@ def by_word(text, package):
 def number_in(file, pattern):
     """The number that a file of the system has, or None."""
     try:
-        with open(file, encoding="utf-8") as it:
-            return int(re.search(pattern, it.read())[1])
-    except (OSError, TypeError):
+        with open(file, encoding="utf-8") as text:
+            found = re.search(pattern, text.read())
+    except OSError:
         return None
+    return int(found[1]) if found else None
 
 
 def lanes():
@@ -146,7 +154,7 @@ def lanes():
         return int(fixed)
     free = [1024 * (number_in("/proc/meminfo", r"MemAvailable:\s+(\d+)") or 0)]
     group = "/sys/fs/cgroup/memory."
-    limit, used = (number_in(group + it, r"(\d+)") for it in ("max", "current"))
+    limit, used = (number_in(group + name, r"(\d+)") for name in ("max", "current"))
     if limit and used is not None:
         free.append(limit - used)
     return max(1, min(len(os.sched_getaffinity(0)), min(free) // MEMORY))
@@ -162,7 +170,12 @@ def counted(said, status):
 
 def answer(word, *words):
     """Answers bin/programs.sh: by a status, or by a line."""
-    told = {"is_fresh": is_fresh, "is_built": is_built, "commit_of": commit_of}[word](*words)
+    answers: dict[str, Callable] = {
+        "is_fresh": is_fresh,
+        "is_built": is_built,
+        "commit_of": commit_of,
+    }
+    told = answers[word](*words)
     if isinstance(told, str):
         print(told)
     return 0 if told else 1

@@ -12,7 +12,7 @@ import subprocess
 # renamings. The first SLOW_SYNCS syncs take SLOW_MS and SLOW_MICROS longer. Each write at a place
 # and each sync that succeeds is added to the file CALL_LOG: its kind, its place (8 bytes) and
 # length (4) in the machine's order, its bytes. The kind is w for a write, s for a sync of what a
-# file holds, and where all of it is synced f for a file and d for a folder.
+# file holds; if all of it is synced, f for a file and d for a folder.
 CALLS = r"""
 #define _GNU_SOURCE
 #include <errno.h>
@@ -131,9 +131,9 @@ ssize_t pwrite(int file, const void *bytes, size_t length, off_t place) {
 }
 """
 
-# The program's request for memory of the number REFUSED_REQUEST is refused, or none where that is
-# 0. How many there were is told behind the last line of standard error; and in the first 8 bytes of
-# the file REQUESTS, in the machine's order, for a program that may end without what ends it.
+# The program's request for memory of the number REFUSED_REQUEST is refused, or none if that is 0.
+# Their count is printed after the last line of standard error; and is in the first 8 bytes of the
+# file REQUESTS, in the machine's order, for a program that may end without what ends it.
 REQUESTS = r"""
 #define _GNU_SOURCE
 #include <fcntl.h>
@@ -184,8 +184,8 @@ def made(source, folder):
     if not compiler:
         raise NoCompiler
     file = os.path.join(folder, "preload.c")
-    with open(file, "w", encoding="utf-8") as it:
-        it.write(source)
+    with open(file, "w", encoding="utf-8") as code:
+        code.write(source)
     library = f"{file}.so"
     subprocess.run([compiler, "-shared", "-fPIC", "-o", library, file, "-ldl"], check=True)
     return library
@@ -193,4 +193,4 @@ def made(source, folder):
 
 def environment(library, **settings):
     """The environment of a program in which the library replaces what it replaces."""
-    return {**os.environ, "LD_PRELOAD": library, **{it: str(to) for it, to in settings.items()}}
+    return {**os.environ, "LD_PRELOAD": library, **{name: str(to) for name, to in settings.items()}}

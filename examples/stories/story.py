@@ -1,6 +1,7 @@
 """A story: the lines of a script, the answer that is due to each, and the page that tells them."""
 
 import textwrap
+from typing import Any
 
 from bozintar.wire import Downlink, Frames, NoMessage
 
@@ -117,7 +118,7 @@ class Story:
             f"The device reads: {take(order.frame)}.",
         ):
             noted = shortened(words, LONGEST_NOTED)
-            indents = {"initial_indent": " " * 4, "subsequent_indent": " " * 8}
+            indents: dict[str, Any] = {"initial_indent": " " * 4, "subsequent_indent": " " * 8}
             self.notes += textwrap.wrap(noted, WIDTH, break_on_hyphens=False, **indents)
 
     def files(self):

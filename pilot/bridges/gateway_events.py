@@ -1,4 +1,4 @@
-"""What ChirpStack's gateway bridge says and is told over MQTT, version 4, by its JSON marshaler."""
+"""The messages of ChirpStack's gateway bridge over MQTT, version 4, by its JSON marshaler."""
 
 import re
 from dataclasses import dataclass
@@ -91,13 +91,13 @@ def command(downlink: Downlink, number: int, context: bytes, powers: tuple[int, 
     """A command `down`: the gateway tries its items in turn, so that RX2 is behind RX1."""
     windows = zip((downlink.rx1, downlink.rx2), powers)
     items = [item(downlink, window, context, power) for window, power in windows if window]
-    it = {"downlinkId": number, "gatewayId": downlink.gateway.lower(), "items": items}
-    return fields.compact(it)
+    names = {"downlinkId": number, "gatewayId": downlink.gateway.lower()}
+    return fields.compact({**names, "items": items})
 
 
 def statuses(body: bytes) -> list[str]:
-    """The statuses of an event `ack`: one for each item that was tried or passed over."""
+    """The statuses of an event `ack`: one for each item, whether it was tried or not."""
     items = fields.table(fields.parsed(body)).get("items", [])
     if not isinstance(items, list):
         raise Wrong("items is no list")
-    return [str(fields.table(it).get("status", "IGNORED")) for it in items]
+    return [str(fields.table(one).get("status", "IGNORED")) for one in items]

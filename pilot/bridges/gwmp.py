@@ -1,5 +1,5 @@
-"""The protocol of Semtech's UDP packet forwarder (GWMP), versions 1 and 2: its datagrams, what it
-says of a frame that was heard (`rxpk`), and what it is told to send (`txpk`)."""
+"""The protocol of Semtech's UDP packet forwarder (GWMP), versions 1 and 2: its datagrams, its
+report of a frame that it heard (`rxpk`), and the order to send one (`txpk`)."""
 
 import re
 from dataclasses import dataclass
@@ -106,18 +106,18 @@ def signal_of(rxpk: dict) -> tuple[int, int]:
     and the best one counts."""
     antennas = [rxpk]
     if "lsnr" not in rxpk and isinstance(rxpk.get("rsig"), list) and rxpk["rsig"]:
-        antennas = [{**fields.table(it), "rssi": it.get("rssic")} for it in rxpk["rsig"]]
+        antennas = [{**fields.table(one), "rssi": one.get("rssic")} for one in rxpk["rsig"]]
     return max(
         (
-            fields.snr(it, "lsnr"),
-            round(fields.number(it, "rssi", -32768, 32767)),
+            fields.snr(antenna, "lsnr"),
+            round(fields.number(antenna, "rssi", -32768, 32767)),
         )
-        for it in antennas
+        for antenna in antennas
     )
 
 
 def txpk_of(downlink: Downlink, window: Window, power: int) -> dict:
-    """What a gateway is told, so that it sends in this window. Power is in dBm."""
+    """The order to a gateway to send in this window. Power is in dBm."""
     return {
         "imme": False,
         "tmst": downlink.moment(window),

@@ -4,13 +4,14 @@ for what comes; `lasting` has links for asyncio, which are opened again and agai
 import socket
 import time
 from collections import deque
-from typing import Any
+from typing import Any, TypeVar
 
 from . import wire
 
 # how long a client tries to be linked, and waits for an answer, in seconds: a machine that does
 # much else may take long
 PATIENCE = 30.0
+L = TypeVar("L", bound="Link")
 
 
 class Ended(Exception):
@@ -127,7 +128,7 @@ class Link:
         """Closes the link."""
         self.socket.close()
 
-    def __enter__(self) -> "Link":
+    def __enter__(self: L) -> L:
         return self
 
     def __exit__(self, *_: Any) -> None:

@@ -13,6 +13,7 @@ import os
 import resource
 import shutil
 import tempfile
+from typing import Any
 
 import commands
 from commands import ROOT
@@ -21,9 +22,10 @@ from bozintar.words import Words, stop
 
 def toolchain():
     """The toolchain's command as a module: it knows how the gate applies and checks an edit."""
-    file = os.path.realpath(shutil.which("rt"))
+    file = os.path.realpath(shutil.which("rt") or "rt")
     loader = importlib.machinery.SourceFileLoader("rt", file)
-    made = importlib.util.module_from_spec(importlib.util.spec_from_loader("rt", loader))
+    spec: Any = importlib.util.spec_from_loader("rt", loader)
+    made = importlib.util.module_from_spec(spec)
     loader.exec_module(made)
     for it in ("checked", "edits_of", "read_edit", "rtlib"):
         if not hasattr(made, it):

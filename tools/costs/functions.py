@@ -37,7 +37,8 @@ def modules(crate):
 
 def dearest(crate):
     """The bytes of each function or file by its modules, and its seconds."""
-    sizes, seconds = defaultdict(Counter), Counter()
+    sizes: dict = defaultdict(Counter)
+    seconds: Counter = Counter()
     kept = modules(crate)
     for (before, _, _), (at, size, module) in zip(kept, kept[1:]):
         part = re.search(PARTS, module)
@@ -57,7 +58,7 @@ def main():
         found = dearest(crate)
         if not found:
             why = "no check of it kept anything: run rt check --jobs 1 there"
-            print(f"{commands.NAME}: {crate}: {why}", file=sys.stderr)
+            print(f"gate-costs functions: {crate}: {why}", file=sys.stderr)
             lacking = 1
         for name, parts, seconds in found:
             most = ", ".join(f"{part} {size / 1e6:.1f}" for part, size in parts.most_common(2))

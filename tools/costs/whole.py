@@ -12,6 +12,7 @@ import os
 import subprocess
 import tempfile
 import time
+from typing import Any
 
 import commands
 from commands import ROOT
@@ -31,7 +32,8 @@ def descendants(of):
                     parents[int(name)] = int(stat.read().rpartition(")")[2].split()[1])
             except OSError:
                 pass
-    found, last = set(), {of}
+    found: set = set()
+    last = {of}
     while last:
         last = {pid for pid, parent in parents.items() if parent in last} - found
         found |= last
@@ -58,8 +60,13 @@ def spent_by(pid):
 
 
 def gate(crates):
-    """The words of the merge gate, with those that pass over what a kit keeps, where it does."""
-    how = {"stdout": subprocess.PIPE, "stderr": subprocess.STDOUT, "text": True, "check": False}
+    """The words of the merge gate, with --anew if the kit keeps anything."""
+    how: dict[str, Any] = {
+        "stdout": subprocess.PIPE,
+        "stderr": subprocess.STDOUT,
+        "text": True,
+        "check": False,
+    }
     told = subprocess.run(["rt", "help"], **how).stdout
     return ["rt", "ci", *(["--anew"] if "--anew" in told else []), *crates]
 
@@ -69,10 +76,16 @@ class Gate:
 
     def __init__(self, root, crates, lanes, log):
         self.log = log
-        self.seen, self.minutes, self.status = {}, None, None
+        self.seen: dict = {}
+        self.minutes: Any = None
+        self.status: Any = None
         self.start = time.time()
         with open(log, "w", encoding="utf-8") as file:
-            how = {"stdin": subprocess.DEVNULL, "stdout": file, "stderr": subprocess.STDOUT}
+            how: dict[str, Any] = {
+                "stdin": subprocess.DEVNULL,
+                "stdout": file,
+                "stderr": subprocess.STDOUT,
+            }
             how["env"] = {**os.environ, "RT_JOBS": str(lanes)}
             self.running = subprocess.Popen(gate(crates), cwd=root, **how)
             self.pid = self.running.pid
@@ -100,7 +113,7 @@ class Gate:
 
     def spent(self):
         """The processor seconds of each (crate, kind)."""
-        spent = {}
+        spent: dict = {}
         for work, seconds in self.seen.values():
             spent[work] = spent.get(work, 0) + seconds
         return spent

@@ -76,7 +76,7 @@ class OfPostgres:
             piece = self.socket.recv(65536)
             came += piece
             if not piece or b"FATAL" in came or b"ERROR" in came:
-                raise Failed(f"PostgreSQL says {came[-200:]}")
+                raise Failed(f"PostgreSQL says {came[-200:]!r}")
 
     @staticmethod
     def bound(*values):
@@ -144,13 +144,13 @@ def side_by_side(kind, address, clients, window, seconds, devices):
         processes[-1].start()
         ends.append(result)
     found = [it.recv() if it.poll(120) else "a client is silent" for it in ends]
-    for it in processes:
-        it.join(10)
-        it.kill()
-    for it in found:
-        if isinstance(it, str):
-            raise Failed(it)
+    for process in processes:
+        process.join(10)
+        process.kill()
+    for outcome in found:
+        if isinstance(outcome, str):
+            raise Failed(outcome)
     waits = array("q")
-    for it in found:
-        waits.extend(it[0])
-    return waits, max(it[2] for it in found) - min(it[1] for it in found)
+    for outcome in found:
+        waits.extend(outcome[0])
+    return waits, max(outcome[2] for outcome in found) - min(outcome[1] for outcome in found)

@@ -96,7 +96,8 @@ def measured(run):
 
 def beside(run, server):
     """Both servers by turns, or lnsd alone."""
-    found = run.figures["requests"] = {"lnsd": [], "postgresql": []}
+    found: dict[str, list] = {"lnsd": [], "postgresql": []}
+    run.figures["requests"] = found
     for count, window in ASKED:
         own, other = Rounds(), Rounds()
         for _ in range(run.given.seconds):

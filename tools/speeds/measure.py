@@ -78,7 +78,7 @@ class Probe:
         self.process = context.Process(target=self.go_on, args=(folder, ends), daemon=True)
 
     def go_on(self, folder, ends):
-        pairs = []
+        pairs: list = []
         with file_in(folder) as number:
             while not self.stop.wait(0.1):
                 pairs.append(committed(number, len(pairs) % 2000 * BATCH))
@@ -124,7 +124,7 @@ def of_task(pid, task):
         status = file.read()
     with open(f"{folder}/schedstat", encoding="utf-8") as file:
         ran = int(file.read().split()[0])
-    name = re.search(r"Name:\s+(.*)", status)[1]
+    name = re.findall(r"Name:\s+(.*)", status)[0]
     return name, ran, sum(map(int, re.findall(r"ctxt_switches:\s+(\d+)", status)))
 
 
@@ -160,7 +160,7 @@ def calls(pid, seconds):
 def counted(pid):
     """Has strace count the system calls of a process; a dictionary that has them behind it, or is
     empty where there is no strace."""
-    found = {}
+    found: dict = {}
     if not shutil.which("strace"):
         yield found
         return

@@ -8,6 +8,7 @@ import sqlite3
 import subprocess
 import tempfile
 import time
+from typing import Any
 
 from bozintar.processes import HOST, free_port
 
@@ -26,7 +27,7 @@ class Missing(Exception):
 
 def sqlite(folder, seconds):
     """Commits a second of SQLite, one client."""
-    waits = []
+    waits: list = []
     with tempfile.TemporaryDirectory(dir=folder) as room:
         it = sqlite3.connect(f"{room}/uplinks", isolation_level=None)
         mode = it.execute("PRAGMA journal_mode=WAL").fetchone()[0]
@@ -92,11 +93,17 @@ class Postgres:
         for it in (self.room, self.socket):
             if self.how:
                 os.chown(it, self.how["user"], self.how["group"])
-        self.server, self.address = None, (HOST, free_port())
+        self.server: Any = None
+        self.address = (HOST, free_port())
 
     def run(self, name, *words, **more):
         """Runs one of its programs; what it printed."""
-        how = {"capture_output": True, "cwd": self.room, "check": False, "timeout": 120}
+        how: dict[str, Any] = {
+            "capture_output": True,
+            "cwd": self.room,
+            "check": False,
+            "timeout": 120,
+        }
         it = subprocess.run([self.programs[name], *words], **how, **self.how, **more)
         if it.returncode:
             raise Missing(f"{name}: {it.stderr.decode(errors='replace').strip()[:300]}")
@@ -108,7 +115,7 @@ class Postgres:
             self.run("initdb", "-D", data, "-U", "lnsd", "-A", "trust", "-N")
             words = ["-D", data, "-k", self.socket, "-c", f"listen_addresses={HOST}"]
             words += ["-p", str(self.address[1])]
-            quiet = {"stdout": subprocess.DEVNULL, "stderr": subprocess.DEVNULL}
+            quiet: dict[str, Any] = {"stdout": subprocess.DEVNULL, "stderr": subprocess.DEVNULL}
             self.server = subprocess.Popen(
                 [self.programs["postgres"], *words], cwd=self.room, **quiet, **self.how
             )

@@ -19,7 +19,7 @@ from array import array
 from collections import Counter
 
 import lnsd.load
-from bozintar.links import Application, Gateway
+from bozintar.links import Application, Gateway, Link
 from bozintar.processes import Failed
 from lnsd.operating import connect_anew
 from speeds import runs
@@ -43,8 +43,9 @@ class Turns:
         self.waits, self.count, self.seconds = array("q"), 0, 0.0
         self.user, self.kernel = 0.0, 0.0
         # by what a thread does: ns on a processor, and how often it was taken off one
-        self.ran, self.switches = Counter(), Counter()
-        self.status = Counter()
+        self.ran: Counter = Counter()
+        self.switches: Counter = Counter()
+        self.status: Counter = Counter()
 
     def add(self, before, after):
         """What each thread took in a turn."""
@@ -178,8 +179,8 @@ def idle_links(run):
     """Links that say nothing."""
     with run.store(runs.bare()) as program:
         address = program.run_on(PLACES)
-        links = [Gateway(address, lnsd.load.gateway_eui(it)) for it in range(NAMED[0])]
-        links += [Application(address, it) for it in range(NAMED[1])]
+        links: list[Link] = [Gateway(address, lnsd.load.gateway_eui(at)) for at in range(NAMED[0])]
+        links += [Application(address, number) for number in range(NAMED[1])]
         time.sleep(2)
         linked = program.status()["links"]
         if linked != str(sum(NAMED)):
