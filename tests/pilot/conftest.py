@@ -2,7 +2,8 @@
 end of its trial, whatever that is; a traceback of one of its programs is a failure."""
 
 import tempfile
-from collections.abc import Iterator
+from collections.abc import Generator, Iterator
+from typing import Any
 
 import pytest
 from bozintar.mqtt import paho
@@ -14,10 +15,26 @@ from .stations import ByStations
 from .whole import Dashboard, Whole
 
 
+# how many lines of each program a trial shows that fails
+SHOWN = 12
+
+
 def pytest_configure() -> None:
     """Nothing of this can be tried without the MQTT library."""
     if not paho:
         raise pytest.UsageError("there is no Python library paho.mqtt; run pilot/install")
+
+
+@pytest.hookimpl(hookwrapper=True)
+def pytest_runtest_makereport(item: Any) -> Generator[None, Any, None]:
+    """A trial that fails shows what its programs printed last."""
+    report = (yield).get_result()
+    values = getattr(item, "funcargs", {}).values() if report.failed else ()
+    for value in values:
+        parts = getattr(value, "pilot", value)
+        for process in parts.all if isinstance(parts, Parts) else ():
+            text = "\n".join(process.said().splitlines()[-SHOWN:])
+            report.sections.append((f"last lines of {process.name}", text))
 
 
 @pytest.fixture

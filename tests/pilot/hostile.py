@@ -40,7 +40,7 @@ def datagram(chance: random.Random) -> bytes:
 
 
 def flood(port: int, chance: random.Random, count: int) -> int:
-    """Sends N of them; N."""
+    """Sends this many of them; how many those are."""
     with socket.socket(socket.AF_INET, socket.SOCK_DGRAM) as stranger:
         for _ in range(count):
             stranger.sendto(datagram(chance), (HOST, port))

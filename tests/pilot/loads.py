@@ -19,7 +19,7 @@ from .parts import Pilot
 GATEWAYS, DEVICES, APPLICATION = 64, 512, 0
 WINDOW = 0.2
 PULLS_EVERY = 5.0
-# how long the rest is waited for after the last reading, in seconds
+# after the last reading, how long the rest is waited for, in seconds
 REST = 10.0
 
 
@@ -72,7 +72,7 @@ class ByUdp:
         self.next_pull = 0.0
 
     def look(self) -> None:
-        """Asks for downlinks where it is time."""
+        """Asks for downlinks if it is time."""
         if time.monotonic() >= self.next_pull:
             self.next_pull = time.monotonic() + PULLS_EVERY
             for own, eui in zip(self.sockets, self.euis):
@@ -120,7 +120,7 @@ class ByMqtt:
         self.next_stats = 0.0
 
     def look(self) -> None:
-        """Says how gateways do where it is time."""
+        """Says how gateways do if it is time."""
         if time.monotonic() >= self.next_stats:
             self.next_stats = time.monotonic() + PULLS_EVERY
             for number in range(GATEWAYS):
@@ -191,7 +191,7 @@ class Loaded:
             return database.execute("SELECT count(*) FROM readings").fetchone()[0]
 
     def run(self, rate: int, seconds: int) -> Outcome:
-        """Sends at a rate for so long; what became of it."""
+        """Sends at this rate for this many seconds; what became of it."""
         plan, outcome = frames(rate * seconds), Outcome(rate * seconds)
         before = [part.processor() for part in self.parts]
         begun = time.monotonic()

@@ -67,7 +67,7 @@ def test_labels_of_counts(bridge: Bridge) -> None:
     "line, code", (("refused 12", "QUEUE_FULL"), ("refused", "REFUSED"), ("refused x", "REFUSED"))
 )
 def test_refused_item(bridge: Bridge, line: str, code: str) -> None:
-    """What the network refuses, in whatever words, may be asked for again."""
+    """What the network refuses, in any words, may be asked for again."""
     for count in (1, 2):
         bridge.dashboard.down(FIRST, fPort=7, data="AA==", id="y")
         assert bridge.link.asked()[:2] == ["queue", FIRST]
@@ -85,7 +85,7 @@ def test_answer_with_a_word_more(bridge: Bridge) -> None:
 
 
 def test_unanswered_item(bridge: Bridge) -> None:
-    """A link ends before an answer: the item is reported by its id if it waits all the same."""
+    """A link ends before an answer: events of the item have its id if it waits all the same."""
     bridge.dashboard.down(FIRST, fPort=7, data="AA==", id="z")
     tag = bridge.link.asked()[2]
     bridge.link.close()
@@ -119,7 +119,7 @@ def test_command_while_away(bridge: Bridge) -> None:
 
 
 def ends_well(bridge: Bridge, *lines: str) -> None:
-    """The bridge gets SIGTERM, and ends what it sends; lines that come on its link then."""
+    """Ends the bridge by SIGTERM; these lines come on its link then."""
     bridge.part.send_signal(signal.SIGTERM)
     assert bridge.link.hears() is None, "the end of its link"
     bridge.link.tell(*lines)
@@ -128,7 +128,7 @@ def ends_well(bridge: Bridge, *lines: str) -> None:
 
 
 def test_end(bridge: Bridge) -> None:
-    """A bridge that gets SIGTERM takes what is in its link; a later run has other tags."""
+    """On SIGTERM a bridge reads what is in its link; a later run has other tags."""
     tag = int(bridge.queued(FIRST, "x"))
     bridge.link.tell(*map(up, range(300)))
     ends_well(bridge, *map(up, range(300, 305)))
@@ -141,7 +141,7 @@ def test_end(bridge: Bridge) -> None:
 
 
 def test_commands_at_the_end(bridge: Bridge) -> None:
-    """What becomes of commands that wait at the end is reported and counted."""
+    """What becomes of commands that wait at the end is published and counted."""
     for text in "abcd":
         bridge.dashboard.down(FIRST, fPort=7, data="AA==", id=text)
     bridge.link.asked()

@@ -144,7 +144,7 @@ def test_at_the_door(
     before = len(opened.told())
     context = opened.own.context(certificate, getattr(opened, authority))
     assert opened.connect(context, said) == due
-    assert len(opened.told()) == before + lines, "what the door logged"
+    assert len(opened.told()) == before + lines, "lines that the door logged"
 
 
 @pytest.mark.parametrize(
@@ -249,7 +249,7 @@ def test_commands_of_another_gateway(broker: Doors) -> None:
 
 
 def test_bridge_without_certificate(broker: Doors) -> None:
-    """A bridge whose certificate isn't taken says so, and still runs when it gets SIGTERM."""
+    """A bridge whose certificate isn't taken says so, and ends well on SIGTERM."""
     words: tuple = ("--network", broker.pilot.network)
     words += ("--broker", f"localhost:{broker.broker_port}")
     words += ("--gateway", GATEWAYS[0], "--ca", f"{broker.own.folder}/ca.crt")

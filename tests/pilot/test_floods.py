@@ -29,7 +29,7 @@ FRAMES = (
     (1009.015625, 9, 3),
     (1e6, 401, 400),
 )
-# a flood: this many datagrams of this many frames each, or as many events
+# a flood: datagrams, frames in each; or as many events
 DATAGRAMS, EACH = 20, 100
 SENT = DATAGRAMS * EACH
 NAMED = [word for eui in GATEWAYS[:2] for word in ("--gateway", eui)]

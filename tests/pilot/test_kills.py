@@ -50,7 +50,7 @@ class Load:
         return is_done or time.monotonic() > self.due.get(meter.number, 0)
 
     def go_on(self, seconds: float, rate: float = RATE) -> None:
-        """Meters send for so long, at most at this rate."""
+        """Meters send for this many seconds, at most at this rate."""
         last = time.monotonic() + seconds
         while time.monotonic() < last:
             meter = self.chance.choice(self.air.meters)

@@ -169,7 +169,7 @@ def test_when_the_broker_writes(broker: Doors) -> None:
 
 
 def test_what_waits(broker: Doors) -> None:
-    """The broker keeps this many bytes for a client that is away, and drops what comes then. It keeps
+    """The broker keeps 80 MB for a client that is away, and drops what comes then. It keeps
     them when it is stopped."""
     port, count = broker.pilot.broker_port, WAITING // LONGEST + 50
     kept = Kept(port)

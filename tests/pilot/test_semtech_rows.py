@@ -6,8 +6,6 @@ from typing import Any
 import pytest
 from bozintar import oracle, wire
 from bozintar.fields import Wrong
-from bozintar.lasting import Link
-from bozintar.words import Address
 from bridges import clocks, gwmp
 from bridges.gwmp import Datagram
 
@@ -86,7 +84,7 @@ RXPK: tuple = (
     ({"data": "A" * 344}, Wrong),
 )
 
-# a downlink's content, and what a forwarder gets for each window
+# a downlink's content, and what is sent to a forwarder for each window
 DOWN = b"\x11" + EUI
 DOWNLINKS = (
     ("0000C350 33BE27A0 05 01 02", (1050000, 868.1, "SF7BW125"), (2050000, 869.525, "SF12BW125")),
@@ -161,7 +159,7 @@ def copied(changes: dict) -> Any:
 
 
 def told(content: bytes) -> list:
-    """What a forwarder gets for each window of a downlink."""
+    """What is sent to a forwarder for each window of a downlink."""
     downlink = wire.Downlink.read(content)
     txpk = [
         gwmp.txpk_of(downlink, window, 14) if window else None
@@ -192,25 +190,6 @@ def test_window_is_due(delay: Any, moment: Any, is_due: Any) -> None:
     assert clock.is_due(0, delay, moment) == is_due
 
 
-class Slow:
-    """A link's network that doesn't read while `size` bytes wait for it."""
-
-    def __init__(self) -> None:
-        self.size, self.said, self.transport = 0, b"", self
-
-    def get_write_buffer_size(self) -> int:
-        """As of a transport."""
-        return self.size
-
-    def is_closing(self) -> bool:
-        """As of a transport."""
-        return False
-
-    def write(self, said: bytes) -> None:
-        """As of a transport."""
-        self.said += said
-
-
 @table("changes, due", RXPK)
 def test_heard(changes: Any, due: Any) -> None:
     """A frame that a forwarder heard: the fields of its copy, or what is counted."""
@@ -219,7 +198,7 @@ def test_heard(changes: Any, due: Any) -> None:
 
 @table("text, first, second", DOWNLINKS)
 def test_downlink(text: str, first: Any, second: Any) -> None:
-    """What a forwarder gets for each window."""
+    """What is sent to a forwarder for each window."""
     assert told(DOWN + bytes.fromhex(text) + PAYLOAD) == [first, second]
 
 
@@ -249,16 +228,3 @@ def test_clock_begins_anew(stamps: Any, due: Any) -> None:
         moment += after
         clock.hear(stamp, moment)
     assert clock.begun_anew == due
-
-
-def test_slow_network() -> None:
-    """What is heard while the network doesn't read is handed in once it does, and before others."""
-    link = Link("one", Address("h", 1), oracle.message(b""))
-    slow: Any = Slow()
-    link.writer = slow
-    for size, said in ((0, b"1"), (10**6, b"2"), (10**6, b"3"), (0, b"4")):
-        slow.size = size
-        is_now = link.say_soon(wire.framed(said))
-        assert is_now == (size == 0), f"{said!r} is sent now"
-    assert slow.said == b"\0\x011\0\x012\0\x013\0\x014", "all that was said"
-    assert link.caught_up == 2, "and how much of it later"

@@ -121,7 +121,7 @@ def test_event_up(changes: Any, due: Any) -> None:
 
 @table("text, items", ORDERS)
 def test_command_down(text: str, items: Any) -> None:
-    """What a gateway gets for a downlink."""
+    """What is sent to a gateway of a downlink."""
     content = b"\x11" + STATION + bytes.fromhex(text) + JOIN
     command = gateway_events.command(wire.Downlink.read(content), 12345, CONTEXT, (16, 27))
     due = {"downlinkId": 12345, "gatewayId": "0016c001f153a14c", "items": items}

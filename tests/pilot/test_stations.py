@@ -26,7 +26,7 @@ def test_each_data_rate(by_stations: ByStations) -> None:
 
 @pytest.mark.parametrize("meters", [1])
 def test_second_window(by_stations: ByStations) -> None:
-    """What a gateway gets for RX1, and for RX2 after it."""
+    """What is sent to a gateway for RX1, and then for RX2."""
     first, meter = by_stations.air.gateways[0], by_stations.meters[0]
     first.errors.append("TOO_LATE")
     frame, mark = meter.reads(), meter.awaited

@@ -49,7 +49,7 @@ def field(pilot: Pilot, meters: int) -> Iterator[Linked]:
 
 
 def test_each_data_rate(field: Linked) -> None:
-    """A reading in each data rate and on each channel, and what the gateway gets then."""
+    """A reading in each data rate and on each channel, and what is sent to a gateway then."""
     for place, meter in enumerate(field.meters):
         is_well = field.reading(meter, data_rate=place, hz=CHANNELS[place])
         assert is_well, f"data rate {place} is acknowledged"
