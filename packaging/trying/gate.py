@@ -59,7 +59,8 @@ def try_files(trials: Trials, top: Path, tree: Path, control: Path) -> None:
     moment = int(needed("git", "-C", top, "log", "-1", "--format=%ct"))
     for it in sorted(tree.rglob("*")):
         name, mode = str(it.relative_to(tree)), it.lstat().st_mode
-        trials.same(f"the time of {name}", int(it.lstat().st_mtime), moment)
+        if not it.is_dir() or it.is_symlink():  # unpacking changes the time of a folder
+            trials.same(f"the time of {name}", int(it.lstat().st_mtime), moment)
         if it.is_dir() or it.is_symlink():
             is_well = it.exists()
         else:
