@@ -51,8 +51,9 @@ def test_ids_of_two_devices(bridge: Bridge) -> None:
     for device in (FIRST, SECOND):
         came = [body["queueItemId"] for body in bridge.events("ack", device, 2)]
         assert came == ["41", "x"], f"what {device} acknowledged"
-    bridge.dashboard.down(FIRST, fPort=7, data="AA==", id="x")
-    assert bridge.queued(FIRST, "another") != tags[0]
+    for text in ("x", "42"):
+        bridge.dashboard.down(FIRST, fPort=7, data="AA==", id=text)
+    assert bridge.link.asked()[2] == "42", "the tag of what is asked next"
 
 
 def test_labels_of_counts(bridge: Bridge) -> None:
