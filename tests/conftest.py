@@ -88,7 +88,8 @@ def pytest_runtest_protocol(item: pytest.Item, nextitem: pytest.Item | None) -> 
         has_failed = any(report.failed for report in reports)
         if not (has_failed and pauses.is_spoilt() and time < TIMES - 1):
             break
-        print(f"{item.nodeid}: the machine paused for {pauses.longest:.2f} s; it is done again")
+        why = [report.longreprtext.splitlines()[-1:] for report in reports if report.failed]
+        print(f"{item.nodeid}: {why}; the machine paused for {pauses.longest:.2f} s: again")
     for report in reports:
         add_repetition(item, report)
         item.ihook.pytest_runtest_logreport(report=report)

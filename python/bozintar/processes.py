@@ -12,6 +12,7 @@ import sys
 import tempfile
 import time
 from collections.abc import Callable, Iterator
+from contextlib import suppress
 from typing import Any, TypeVar
 
 HOST = "127.0.0.1"
@@ -218,9 +219,12 @@ class Processes:
         return self
 
     def __exit__(self, kind: type | None, *_: Any) -> None:
-        for process in self.all:
-            process.clean()
-        torn = [process.said() for process in self.all if "Traceback" in process.said()]
-        self.clean()
+        try:
+            for process in self.all:
+                with suppress(Failed):  # it was told to end, and the others are told too
+                    process.clean()
+            torn = [process.said() for process in self.all if "Traceback" in process.said()]
+        finally:
+            self.clean()
         if torn and not kind:
             raise Failed(f"a traceback: {torn[0][torn[0].index('Traceback'):][-800:]}")

@@ -53,7 +53,7 @@ class Field:
         for place, gateway in enumerate(by or self.air.gateways):
             gateway.hears(frame, hz, data_rate, snr=8 - place, rssi=-70 - place)
 
-    def join(self, seconds: float = 120.0) -> bool:
+    def join(self, seconds: float = 240.0) -> bool:
         """All meters join, some at a time, and again those that no accept came to."""
         last, until = time.monotonic() + seconds, dict.fromkeys(self.meters, 0.0)
         while out := [meter for meter in self.meters if not meter.keys]:

@@ -58,7 +58,7 @@ class Load:
                 self.send(meter)
             self.air.go_on(1 / rate)
 
-    def rest(self, seconds: float = 60.0) -> bool:
+    def rest(self, seconds: float = 180.0) -> bool:
         """Each meter sends until it is acknowledged; whether all are."""
         last, waiting = time.monotonic() + seconds, list(self.air.meters)
         for meter in waiting:

@@ -11,6 +11,8 @@ from bozintar.processes import HOST, Failed, await_that
 from .field import APPLICATION, Field
 from .parts import Pilot
 
+# how long many devices may take on a busy machine, in seconds
+LONG = 240.0
 COLUMNS = "device, session, counter, payload"
 C = TypeVar("C", bound="Client")
 EVENTS = f"application/{APPLICATION}/device/+/event/+"
@@ -87,7 +89,9 @@ class Whole(Field):
         self.database = pilot.file("readings.db")
         self.readings = pilot.own("readings", "--db", self.database, *broker)
         self.readings.start("connected")
-        self.applications.start("devices are there")
+        self.applications.start()
+        are_there = lambda: self.applications.has_said("devices are there")
+        await_that("all devices are there", are_there, LONG)
 
     def stored(self) -> dict[Reading, bytes]:
         """What is in the database."""
@@ -99,7 +103,7 @@ class Whole(Field):
         """All readings that were acknowledged to their meters."""
         return {mark: meter.sent[mark] for meter in self.meters for mark in meter.acknowledged}
 
-    def await_stored(self, due: dict, seconds: float = 30.0) -> bool:
+    def await_stored(self, due: dict, seconds: float = 90.0) -> bool:
         """Waits until these readings are stored, and no others under their names."""
         try:
             await_that("stored", lambda: due.items() <= self.stored().items(), seconds, 0.1)
