@@ -221,7 +221,7 @@ class Processes:
     def __exit__(self, kind: type | None, *_: Any) -> None:
         try:
             for process in self.all:
-                with suppress(Failed):  # it was told to end, and the others are told too
+                with suppress(Failed):  # it got its signal, and the others get theirs
                     process.clean()
             torn = [process.said() for process in self.all if "Traceback" in process.said()]
         finally:

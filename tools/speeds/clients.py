@@ -127,7 +127,7 @@ def one(kind, words, window, seconds, barrier, result):
         barrier.wait(60)
         result.send(asked(client, window, seconds))
         client.close()
-    except Exception as why:  # whoever started it is told
+    except Exception as why:  # the process that started it gets it
         barrier.abort()
         result.send(f"{type(why).__name__}: {why}")
 
