@@ -12,6 +12,10 @@ from .field import APPLICATION, GATEWAYS
 from .parts import PILOT, Pilot, run
 from .stations import Station
 
+# how long a client waits that is due nothing, and one that is due an answer or the end, in seconds:
+# on a busy machine a door takes long to start
+SILENCE, LONG = 1.5, 20.0
+
 TLS, BROKER_TLS = "/etc/bozintar/tls", "/etc/mosquitto/certs"
 OTHERS = "AA555A00000000B9"
 
@@ -126,13 +130,15 @@ class Doors:
             self.broker = self.pilot.broker(more.read()).start("running")
         return port
 
-    def connect(self, context: ssl.SSLContext, said: bytes) -> bytes | None:
-        """Connects and says something; what comes in 1.5 seconds, or None for the end."""
+    def connect(
+        self, context: ssl.SSLContext, said: bytes, seconds: float = SILENCE
+    ) -> bytes | None:
+        """Connects and sends this; what comes within some seconds, or None for the end."""
         try:
             with socket.create_connection((HOST, self.port), 10) as bare:
                 with context.wrap_socket(bare, server_hostname="localhost") as client:
                     client.sendall(said)
-                    client.settimeout(1.5)
+                    client.settimeout(seconds)
                     return client.recv(1000) or None
         except TimeoutError:
             return b""

@@ -19,7 +19,9 @@ from bozintar.meters import Meter
 from bozintar.processes import HOST, await_that
 
 from .doors import (
+    LONG,
     OTHERS,
+    SILENCE,
     Certificates,
     Doors,
     Secured,
@@ -143,7 +145,8 @@ def test_at_the_door(
     """Who is let in, and who isn't."""
     before = len(opened.told())
     context = opened.own.context(certificate, getattr(opened, authority))
-    assert opened.connect(context, said) == due
+    seconds = SILENCE if due == b"" else LONG
+    assert opened.connect(context, said, seconds) == due
     assert len(opened.told()) == before + lines, "lines that the door logged"
 
 
@@ -158,7 +161,7 @@ def test_stunnel_says_why(opened: Doors, authority: str, certificate: str | None
     """The log of stunnel says why a client was refused."""
     before = opened.stunnel.said().count(why)
     context = opened.own.context(certificate, getattr(opened, authority))
-    assert opened.connect(context, gateway(GATEWAYS[0])) is None
+    assert opened.connect(context, gateway(GATEWAYS[0]), LONG) is None
     assert opened.stunnel.said().count(why) > before
 
 
