@@ -14,6 +14,7 @@ import pytest
 from _pytest.runner import runtestprotocol
 
 from .ports import take_ports
+from .running import ROOT
 
 take_ports()  # before bozintar.processes looks which ones there are
 
@@ -28,6 +29,12 @@ os.environ["PYTHONDONTWRITEBYTECODE"] = "1"
 # how often a trial is done that failed while the machine paused
 TIMES = 4
 SEED = 7
+SIMULATOR = str(ROOT / "crates/lns_sim/out/lns_sim")
+pytest_plugins = ("tests.lnsd.options",)
+# asserts of modules beside the trials show their values, too
+pytest.register_assert_rewrite("tests.lnsd", "tests.pilot")
+# the trials below these look at what one fixture has played, which takes long
+PLAYED = ("tests/lnsd/kills/", "tests/lnsd/cuts/", "tests/lnsd/restore/test_lost.py")
 
 
 def pytest_addoption(parser: pytest.Parser) -> None:
@@ -35,6 +42,8 @@ def pytest_addoption(parser: pytest.Parser) -> None:
     group = parser.getgroup("trials of Bozintar")
     text = "the program lnsd, for example out/unproved/lnsd, which bin/unproved lnsd makes"
     group.addoption("--program", metavar="FILE", default=BUILT, help=f"{text} ({BUILT})")
+    text = "the program lns-sim, for example out/unproved/lns-sim"
+    group.addoption("--simulator", metavar="FILE", default=SIMULATOR, help=f"{text} ({SIMULATOR})")
     text = "how often each trial is done, random ones with the next seed each time (1)"
     group.addoption("--rounds", type=int, metavar="N", default=1, help=text)
     group.addoption("--seed", type=int, metavar="N", default=SEED, help=f"the first seed ({SEED})")
@@ -56,18 +65,46 @@ def pytest_generate_tests(metafunc: pytest.Metafunc) -> None:
     rounds, first = metafunc.config.getoption("rounds"), metafunc.config.getoption("seed")
     if "seed" in metafunc.fixturenames:
         seeds = range(first, first + rounds)
-        metafunc.parametrize("seed", seeds, ids=[f"seed{seed}" for seed in seeds])
+        ids = [f"seed{seed}" for seed in seeds]
+        metafunc.parametrize("seed", seeds, ids=ids, scope="session")
     elif rounds > 1:
         metafunc.fixturenames.append("of_round")
         metafunc.parametrize("of_round", range(rounds), ids=[f"round{n}" for n in range(rounds)])
 
 
+@pytest.hookimpl(optionalhook=True)
+def pytest_xdist_make_scheduler(config: pytest.Config, log: Any) -> Any:
+    """With -n, each worker does one trial after another; those that look at what one fixture has
+    played stay together."""
+    from xdist.scheduler import LoadScopeScheduling
+
+    class Scheduling(LoadScopeScheduling):
+        """Trials by what they share."""
+
+        def _split_scope(self, nodeid: str) -> str:
+            file, _, name = nodeid.partition("::")
+            return file + name.partition("[")[2] if nodeid.startswith(PLAYED) else nodeid
+
+    return Scheduling(config, log)
+
+
 @pytest.fixture(scope="session")
 def program(pytestconfig: pytest.Config) -> str:
     """The path of the program lnsd."""
-    path = pytestconfig.getoption("program")
+    return program_of(pytestconfig, "program", f"bin/build lnsd makes {BUILT}")
+
+
+@pytest.fixture(scope="session")
+def simulator(pytestconfig: pytest.Config) -> str:
+    """The path of the program lns-sim."""
+    return program_of(pytestconfig, "simulator", f"bin/build lns-sim makes {SIMULATOR}")
+
+
+def program_of(config: pytest.Config, option: str, hint: str) -> str:
+    """The path of a program, which has to be there."""
+    path = config.getoption(option)
     if not is_program(path):
-        pytest.fail(f"there is no program {path}: bin/build lnsd makes {BUILT}", pytrace=False)
+        pytest.fail(f"there is no program {path}: {hint}", pytrace=False)
     return os.path.abspath(path)
 
 
@@ -82,11 +119,11 @@ def pytest_runtest_protocol(item: pytest.Item, nextitem: pytest.Item | None) -> 
     """Does one trial, again if it failed while the machine paused: that says nothing of what is
     tried."""
     item.ihook.pytest_runtest_logstart(nodeid=item.nodeid, location=item.location)
-    for time in range(TIMES):
+    for time in range(1 if item.get_closest_marker("repeats_itself") else TIMES):
         with Pauses() as pauses:
             reports = runtestprotocol(item, log=False, nextitem=nextitem)
         has_failed = any(report.failed for report in reports)
-        if not (has_failed and pauses.is_spoilt() and time < TIMES - 1):
+        if not (has_failed and pauses.is_spoilt()):
             break
         why = [report.longreprtext.splitlines()[-1:] for report in reports if report.failed]
         print(f"{item.nodeid}: {why}; the machine paused for {pauses.longest:.2f} s: again")

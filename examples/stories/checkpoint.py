@@ -47,28 +47,30 @@ class Books:
 
     def listed(self):
         """The list; no device has joined."""
-        lines = [f"{slot} {it} 0 - - - {self.items[it]} 0" for slot, it in enumerate(METERS)]
+        lines = [
+            f"{slot} {story} 0 - - - {self.items[story]} 0" for slot, story in enumerate(METERS)
+        ]
         return *lines, f"devices {SLOTS} seq {self.seq + self.untaken}"
 
 
-def commit(it, books):
+def commit(story, books):
     """A commit, whose effects are released and left to wait."""
     count = books.taken()
-    it.take(count)
-    it.call(4)
-    it.line("release", f"released {count}")
+    story.take(count)
+    story.call(4)
+    story.line("release", f"released {count}")
 
 
-def filled(it, books):
+def filled(story, books):
     """The journal gets some batches."""
-    it.part("A journal")
-    it.line(f"format 00002A {SLOTS}", f"formatted {32 + 2 * area_length()}")
+    story.part("A journal")
+    story.line(f"format 00002A {SLOTS}", f"formatted {32 + 2 * area_length()}")
     for meter in METERS:
-        it.line(f"provision 0 3 {meter} {JOIN_EUI} {APP_KEY} 0 1", books.decided())
-    commit(it, books)
+        story.line(f"provision 0 3 {meter} {JOIN_EUI} {APP_KEY} 0 1", books.decided())
+    commit(story, books)
     for slot, meter in enumerate(METERS):
-        it.line("emit", told(f"provisioned {meter} {slot}"))
-    it.say(
+        story.line("emit", told(f"provisioned {meter} {slot}"))
+    story.say(
         f"A store of {SLOTS} devices has two areas of {area_length():,} bytes. The four devices "
         "are provisioned."
     )
@@ -76,10 +78,10 @@ def filled(it, books):
         for tag in range(16):
             piece = bytes((tag * PIECE + place) % 251 for place in range(PIECE)).hex().upper()
             books.items[meter] += 1
-            it.line(f"queue 0 3 {meter} {tag} 9 u {piece}", books.decided())
-        it.line(f"queue 0 3 {meter} 16 9 u 00", f"turn {books.made} {books.made} refused 12")
-        commit(it, books)
-    it.say(
+            story.line(f"queue 0 3 {meter} {tag} 9 u {piece}", books.decided())
+        story.line(f"queue 0 3 {meter} 16 9 u 00", f"turn {books.made} {books.made} refused 12")
+        commit(story, books)
+    story.say(
         "For each of three devices the application queues 16 items of 242 bytes, pieces of an "
         "update. A seventeenth item is refused (12, QueueFull). No gateway hears the devices, so "
         "nothing leaves the queues. Each decision writes only what it changes, here an item, and "
@@ -92,20 +94,20 @@ def request(meter):
     return f"mac 0 3 {meter} {DEV_STATUS_REQ}"
 
 
-def cut(it, books):
+def cut(story, books):
     """Power cuts while the checkpoint is written."""
-    it.part("A checkpoint, and power cuts in it")
+    story.part("A checkpoint, and power cuts in it")
     opened = f"opened {SLOTS} {books.seq}"
     for _ in range(2):
-        it.line(request(QUIET), books.decided())
+        story.line(request(QUIET), books.decided())
     lost = books.untaken
-    it.line("checkpoint", "begun")
-    it.line("take 64", "idle")
-    it.call(1)
-    it.line("crash fill", opened)
+    story.line("checkpoint", "begun")
+    story.line("take 64", "idle")
+    story.call(1)
+    story.line("crash fill", opened)
     books.crashed()
-    it.line("list", *books.listed())
-    it.say(
+    story.line("list", *books.listed())
+    story.say(
         "A checkpoint writes the durable table into the other area, after that area's closed "
         "gate. The power is cut before the sync, and the disk has A5 everywhere the checkpoint "
         f"wrote. The area doesn't count, since its gate is closed. {lost} decisions waited "
@@ -115,35 +117,35 @@ def cut(it, books):
         (2, "new", "The table is written and synced, and the gate is closed: the old area counts."),
         (3, "old", "The gate was opened but not synced. The disk lost it: the old area counts."),
     ):
-        it.line("checkpoint", "begun")
-        it.call(calls)
-        it.line(f"crash {image}", opened)
-        it.say(words)
-    it.line("checkpoint", "begun")
-    it.call(3)
-    it.line("crash new", opened)
-    it.say(
+        story.line("checkpoint", "begun")
+        story.call(calls)
+        story.line(f"crash {image}", opened)
+        story.say(words)
+    story.line("checkpoint", "begun")
+    story.call(3)
+    story.line("crash new", opened)
+    story.say(
         "Now the disk kept the gate. Both areas are open. The new one counts, since its "
         "generation is greater. It holds the same table and number."
     )
 
 
-def goes_on(it, books):
+def goes_on(story, books):
     """The journal begins anew, and a second checkpoint goes back."""
-    it.part("The store goes on")
-    it.line(request(QUIET), books.decided())
-    commit(it, books)
-    it.line("emit", told(f"macqueued {QUIET} {DEV_STATUS_REQ}"))
-    it.line("list", *books.listed())
-    it.say("After the checkpoint the next decision is committed as before.")
-    it.line("checkpoint", "begun")
-    it.call(6)
-    it.line("call", "idle")
-    it.line(request(QUIET), books.decided())
-    commit(it, books)
-    it.line("crash old", f"opened {SLOTS} {books.seq}")
-    it.line("list", *books.listed())
-    it.say(
+    story.part("The store goes on")
+    story.line(request(QUIET), books.decided())
+    commit(story, books)
+    story.line("emit", told(f"macqueued {QUIET} {DEV_STATUS_REQ}"))
+    story.line("list", *books.listed())
+    story.say("After the checkpoint the next decision is committed as before.")
+    story.line("checkpoint", "begun")
+    story.call(6)
+    story.line("call", "idle")
+    story.line(request(QUIET), books.decided())
+    commit(story, books)
+    story.line("crash old", f"opened {SLOTS} {books.seq}")
+    story.line("list", *books.listed())
+    story.say(
         "The second checkpoint goes into the first area again. That area's gate is open and must "
         "be closed first, so there are six calls. After a last cut everything is there."
     )
@@ -151,7 +153,7 @@ def goes_on(it, books):
 
 def story():
     """All of it."""
-    it = Story(
+    story = Story(
         "a-checkpoint",
         "A checkpoint, and power cuts in it",
         "Each decision adds to the journal of the live area, which has a mebibyte. Before the "
@@ -159,7 +161,7 @@ def story():
         "journal begins after it. This script asks for checkpoints earlier.",
     )
     books = Books()
-    filled(it, books)
-    cut(it, books)
-    goes_on(it, books)
-    return it
+    filled(story, books)
+    cut(story, books)
+    goes_on(story, books)
+    return story

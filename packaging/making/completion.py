@@ -45,6 +45,7 @@ def options_of(text: str) -> list[str]:
 
 def completion(top: str, helps: dict[str, str]) -> str:
     """The completion, from the --help of lnsd and from that of each subcommand."""
-    cases = [f'    {name}) options="{" ".join(options_of(it))}" ;;' for name, it in helps.items()]
+    options = {name: " ".join(options_of(text)) for name, text in helps.items()}
+    cases = [f'    {name}) options="{words}" ;;' for name, words in options.items()]
     commands = " ".join([*commands_of(top), *options_of(top)])
     return TEXT.replace("@COMMANDS@", commands).replace("@CASES@", "\n".join(cases))

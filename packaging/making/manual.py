@@ -43,8 +43,8 @@ def escaped(line: str) -> str:
 
 def read(text: str, command: str) -> Help:
     """The parts of what --help of this command printed."""
-    parts = [it for it in re.split(r"\n[ \t]*\n", text.strip("\n")) if it.strip()]
-    usage = next((it for it in parts if USAGE.match(it)), None)
+    parts = [part for part in re.split(r"\n[ \t]*\n", text.strip("\n")) if part.strip()]
+    usage = next((part for part in parts if USAGE.match(part)), None)
     if usage is None:
         synopsis, parts[0] = split_docstring(parts[0], command)
     else:
@@ -116,8 +116,8 @@ def sections(paragraphs: tuple[str, ...]) -> Iterator[str]:
     """The paragraphs, each below the heading that it belongs to."""
     now = "DESCRIPTION"
     yield f".SH {now}"
-    for it in paragraphs:
-        lines = it.split("\n")
+    for paragraph in paragraphs:
+        lines = paragraph.split("\n")
         heading, lines = heading_of(lines, now)
         if heading != now:
             now = heading
@@ -145,6 +145,6 @@ def page(command: str, text: str, edition: Edition, also: list[str]) -> str:
     head = f'.TH {escaped(name.upper())} 1 "{edition.day()}" "bozintar {edition.version}" Bozintar'
     lines = [head, ".SH NAME", escaped(f"{name} - {said.title}")]
     lines += [".SH SYNOPSIS", escaped(said.synopsis), *sections(said.paragraphs)]
-    pages = ", ".join(f"\\fB{escaped(it)}\\fP(1)" for it in also)
+    pages = ", ".join(f"\\fB{escaped(name)}\\fP(1)" for name in also)
     lines += [".SH SEE ALSO", *([f"{pages},"] if pages else [])]
     return "\n".join([*lines, "/usr/share/doc/bozintar/README.Debian"]) + "\n"

@@ -2,11 +2,12 @@
 
 import os
 import shutil
-import subprocess
 import tempfile
 from pathlib import Path
 
-from .counting import Broken, Trials, await_that, end, needed, run
+from bozintar.processes import Failed, Process, await_that
+
+from .counting import Trials, needed, run
 
 MIRROR = "http://deb.debian.org/debian"
 PATH = "PATH=/usr/sbin:/usr/bin:/sbin:/bin"
@@ -36,19 +37,26 @@ class Container:
         (root / "etc/hosts").write_text("127.0.0.1 localhost\n", encoding="ascii")
         self.root, self.trials = root, trials
         words = ("--boot", "--register=no", "--keep-unit", "--private-network", "--resolv-conf=off")
-        with open(root.parent / "boot.log", "wb") as log:
-            how = {"stdout": log, "stderr": log, "start_new_session": True}
-            self.nspawn = trials.start("systemd-nspawn", "-q", "-D", root, *words, **how)
-        trials.at_end(lambda: end(self.nspawn, 40))
+        self.nspawn = Process("boot", str(root.parent), "systemd-nspawn", "-q", "-D", root, *words)
+        trials.callback(self.nspawn.clean)
+        self.boot()
+        trials.callback(self.shut_down)
+
+    def boot(self) -> None:
+        """Boots it."""
+        self.nspawn.start(start_new_session=True)
         await_that("the first process of the root", self.first)
         states = ("running\n", "degraded\n")
         await_that("the boot", lambda: self.run("systemctl", "is-system-running")[1] in states, 120)
 
+    def shut_down(self) -> None:
+        """Shuts it down."""
+        self.nspawn.end(seconds=120)
+
     def first(self) -> str:
         """The id of the process that is number 1 inside."""
-        if self.nspawn.poll() is not None:
-            log = (self.root.parent / "boot.log").read_text(encoding="utf-8", errors="replace")
-            raise Broken(f"systemd-nspawn ended: {log[-1000:]}")
+        if not self.nspawn.is_running():
+            raise Failed(f"systemd-nspawn ended: {self.nspawn.said()[-1000:]}")
         pid = self.nspawn.pid
         try:
             found = Path(f"/proc/{pid}/task/{pid}/children").read_text(encoding="ascii").split()
@@ -68,10 +76,11 @@ class Container:
         """What a command inside prints, which has to end well."""
         return needed(*self.words(*words), timeout=timeout)
 
-    def start(self, *words: str, out: Path) -> "subprocess.Popen[str]":
-        """Starts a command inside whose output goes to a file."""
-        with open(out, "ab") as file:
-            return self.trials.start(*self.words(*words), stdout=file, stderr=file)
+    def start(self, name: str, *words: str) -> Process:
+        """Starts a command inside, which ends with the trial."""
+        process = Process(name, str(self.root.parent), *self.words(*words))
+        self.trials.callback(process.clean)
+        return process.start()
 
     def put(self, source: Path, to: str) -> None:
         """Copies a file into the root."""
@@ -89,14 +98,14 @@ class Container:
 def need_root() -> None:
     """Ends the trial if it can't boot a root."""
     if os.getuid():
-        raise Broken("--root needs root")
+        raise Failed("--root needs root")
     for program, package in {
         "debootstrap": "debootstrap",
         "systemd-nspawn": "systemd-container",
         "nsenter": "util-linux",
     }.items():
         if not shutil.which(program):
-            raise Broken(f"there is no program {program}: apt-get install {package}")
+            raise Failed(f"there is no program {program}: apt-get install {package}")
 
 
 def scratch() -> Path:

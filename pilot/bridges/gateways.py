@@ -1,5 +1,5 @@
-"""What bridges of gateways share: which gateways are named, a link for each gateway that isn't silent, and the
-options of their commands."""
+"""What bridges of gateways share: which gateways are named, a link for each gateway that isn't
+silent, and the options of their commands."""
 
 import argparse
 import asyncio

@@ -3,7 +3,7 @@
 What plays devices and gateways and speaks with the server (`aes`, `frames`, `devices`, `meters`,
 `forwarders`, `network`, `wire`, `links`) is written from the standards and docs/FORMATS.md alone:
 it shares no line with the server. It needs Python's standard library alone; `mqtt`, `broker` and
-`counts` need packages of Debian (pilot/install)."""
+`counts` need packages of Debian."""
 
 import sys
 

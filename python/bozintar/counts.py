@@ -17,9 +17,7 @@ COUNTS_HELP = "writes counts there every ten seconds, for node_exporter; name it
 def need_it() -> None:
     """Ends with a line if there is no library."""
     if not prometheus:
-        stop(
-            "there is no Python library prometheus_client; pilot/install has the system install it"
-        )
+        stop("there is no Python library prometheus_client: apt install python3-prometheus-client")
 
 
 class Metric:

@@ -11,7 +11,7 @@ paho = library("paho.mqtt.client")
 def need_it() -> None:
     """Ends with a line if there is no library."""
     if not paho:
-        stop("there is no Python library paho.mqtt; pilot/install has the system install it")
+        stop("there is no Python library paho.mqtt: apt install python3-paho-mqtt")
 
 
 def client(name: str, is_kept: bool = False) -> Any:

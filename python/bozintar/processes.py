@@ -27,9 +27,9 @@ class Failed(Exception):
 
 
 def own_ports() -> Iterator[int]:
-    """The ports of LNSD_PORTS, which tools/side-by-side gives to each command, or all that
-    connections don't get by themselves, one after another; so no two of a process are the same
-    before all have been."""
+    """The ports of LNSD_PORTS, which each worker of pytest has for itself, or all that connections
+    don't get by themselves, one after another; so no two of a process are the same before all have
+    been."""
     first, _, last = (os.environ.get("LNSD_PORTS") or "20000-31999").partition("-")
     ports = range(int(first), int(last) + 1)
     return itertools.cycle(random.sample(ports, len(ports)))

@@ -95,7 +95,7 @@ class Doors:
             (TLS, self.own.folder),
             ("setuid = stunnel4\nsetgid = stunnel4\n", ""),
             (":::5601", f"{HOST}:{self.port}"),
-            ("/opt/bozintar/pilot", str(PILOT)),
+            ("/usr/lib/bozintar/pilot", str(PILOT)),
             (f"door {HOST}:5600", f"door {self.pilot.network} --log {self.log}"),
         )
         self.stunnel = self.pilot.process("stunnel-server", command("stunnel"), conf)

@@ -13,7 +13,7 @@ from typing import Any
 from bozintar.frames import CHANNELS
 from bozintar.mqtt import client
 from bozintar.processes import HOST, await_that
-from lnsd import load, store
+from bozintar import load, store
 from .parts import Pilot
 
 GATEWAYS, DEVICES, APPLICATION = 64, 512, 0

@@ -1,5 +1,5 @@
-"""What install --services copies, into a folder of the trial's own: files of the pilot alone, with
-the modes that they have in the repository. And the stores that are made at first."""
+"""What the package takes from a clone, into a folder of the trial's own: files that git knows alone,
+with modes that don't depend on the clone's. And the store that its unit makes at first."""
 
 import os
 import re
@@ -7,59 +7,68 @@ import shlex
 import shutil
 import stat
 import subprocess
-import sys
-from collections.abc import Callable, Iterator
+from collections.abc import Iterator
 from pathlib import Path
 from typing import Any
 
 import pytest
-from bozintar.server import Program
+from bozintar.processes import Failed
+from bozintar.server import Ended, Program
+from making import tree
+from making.manual import Edition
+from making.tree import DOC, LIB, UNITS_TO, Tree
 
-from .parts import PILOT, run
+from .parts import PILOT
 
-PROGRAMS, UNITS = Path("opt/bozintar"), Path("etc/systemd/system")
-SETTINGS = Path("etc/mosquitto/conf.d/bozintar.conf")
-UNITS_OF = Path("pilot/systemd")
+TOP = PILOT.parent
+FOLDERS = ("docs", "packaging", "pilot", "python")
+FILES = ("CHANGELOG.md", "README.md", "SECURITY.md")
 SECRET = "8F3A90C1D2E4B5A697887766554433E1"
-# what an operator may leave in the folder, and with which mode
+# what an operator or a developer may leave in the clone, and with which mode
 STRAYS = {
     "pilot/devices.csv": 0o644,
+    "pilot/stray.conf": 0o644,
     "pilot/authority/ca.key": 0o600,
     "pilot/secure/ca.key": 0o600,
     "pilot/bridges/keys.py": 0o644,
-    "pilot/systemd/stray.service": 0o644,
-    "pilot/systemd/stunnel@bozintar.service.d/stray.conf": 0o600,
+    "packaging/systemd/stray.service": 0o644,
+    "packaging/systemd/stunnel@bozintar.service.d/stray.conf": 0o600,
+    "packaging/files/stray.conf": 0o600,
     "python/keys.py": 0o644,
     "python/bozintar/keys.py": 0o600,
+    "docs/stray.md": 0o644,
 }
 LINKS = [
     *("pilot/shadow", "pilot/secure/shadow", "pilot/bridges/shadow.py"),
-    *("pilot/systemd/shadow.service", "python/bozintar/shadow.py"),
+    *("packaging/systemd/shadow.service", "python/bozintar/shadow.py"),
 ]
-# what needs the whole repository
-OF_THE_REPOSITORY = ("play", "speed", "__pycache__")
+# what is for a clone alone
+OF_THE_CLONE = {Path("pilot/install"), Path("pilot/speed")}
 # the most slots of a store, and its length then, by docs/OPERATING.md
 MOST_SLOTS, MOST_BYTES = 4096, 37_363_804
-# how the names of the pilot's own texts end: a clone may have an operator's files already
-TEXTS = (".acl", ".conf", ".md", ".py", ".service", ".timer", ".yml")
-RUN = [
-    *("applications-mqtt", "gateways-mqtt", "gateways-udp", "install", "metrics", "readings"),
-    *("secure/certificates", "secure/door"),
-]
+CONF = "/etc/bozintar/lnsd.conf"
 
 
 class Clone:
-    """A copy of pilot/ and of the package, in which an operator has left files and links, and where
-    it is installed."""
+    """A clone with an umask, in which somebody has left files and links, and what is packed of
+    it."""
 
     def __init__(self, folder: Path, umask: int) -> None:
         self.top, self.to = folder / "clone", folder / "to"
-        ignored = shutil.ignore_patterns(*OF_THE_REPOSITORY)
-        for name in ("pilot", "python"):
-            shutil.copytree(PILOT.parent / name, self.top / name, ignore=ignored)
-        for own in self.files():
+        for name in FOLDERS:
+            ignored = shutil.ignore_patterns("__pycache__")
+            shutil.copytree(TOP / name, self.top / name, ignore=ignored)
+        for name in FILES:
+            shutil.copy(TOP / name, self.top)
+        self.own = self.files()
+        for own in self.own:
             (self.top / own).chmod((0o777 if is_program(self.top / own) else 0o666) & ~umask)
-        self.own, secret = self.files(), folder / "secret"
+        for words in (("init", "-q"), ("add", "-A")):
+            subprocess.run(["git", "-C", str(self.top), *words], check=True)
+        self.leave(folder / "secret")
+
+    def leave(self, secret: Path) -> None:
+        """Leaves what git doesn't know."""
         secret.write_text(SECRET, encoding="utf-8")
         for name, mode in STRAYS.items():
             stray = self.top / name
@@ -71,21 +80,20 @@ class Clone:
         (self.top / "pilot/linked").symlink_to(self.top / "pilot/authority")
 
     def files(self) -> set[Path]:
-        """The files of the pilot and of the package."""
-        found = (file for file in self.top.rglob("*") if file.is_file())
-        found = (file for file in found if file.suffix in TEXTS or is_program(file))
-        return {file.relative_to(self.top) for file in found}
+        """The files of the clone."""
+        return {file.relative_to(self.top) for file in self.top.rglob("*") if file.is_file()}
 
-    def install(self) -> subprocess.CompletedProcess:
-        """Installs it, as an operator with a strict umask does."""
-        words = [sys.executable, self.top / "pilot/install", "--services", "--root", self.to]
-        how: dict[str, Any] = {"capture_output": True, "text": True, "umask": 0o077}
-        return subprocess.run(list(map(str, words)), check=False, **how)
+    def pack(self) -> None:
+        """Puts what the package takes from the clone, except the programs of the server."""
+        made = Tree(self.top, self.to, Edition("0.1.0", 0))
+        tree.put_python(made)
+        tree.put_units(made)
+        tree.put_documents(made)
 
-    def came(self, below: Path) -> set[Path]:
+    def came(self, below: str) -> set[Path]:
         """The files that came below a folder."""
-        of = self.to / below
-        return {file.relative_to(of) for file in of.rglob("*") if not file.is_dir()}
+        folder = self.to / below
+        return {file.relative_to(folder) for file in folder.rglob("*") if not file.is_dir()}
 
 
 def is_program(file: Path) -> bool:
@@ -93,105 +101,83 @@ def is_program(file: Path) -> bool:
     return file.read_bytes().startswith(b"#!")
 
 
-def mode_of(file: Path) -> int:
-    """The mode of what isn't a link."""
-    return stat.S_IMODE(file.lstat().st_mode)
-
-
 @pytest.fixture(params=(0o022, 0o077), ids=("umask 022", "umask 077"))
 def clone(request: pytest.FixtureRequest, folder: Path) -> Clone:
-    """A clone, made under an umask, that is installed."""
-    made = Clone(folder, request.param)
-    ended = made.install()
-    assert (ended.returncode, ended.stderr) == (0, "")
-    return made
+    """A clone, made under an umask."""
+    return Clone(folder, request.param)
 
 
-def test_what_is_copied(clone: Clone) -> None:
-    """The files of the pilot and its units come; what lies beside them doesn't."""
-    assert clone.came(PROGRAMS) == clone.own
-    units = {file.relative_to(UNITS_OF) for file in clone.own if file.is_relative_to(UNITS_OF)}
-    assert clone.came(UNITS) == units
+@pytest.fixture
+def packed(clone: Clone) -> Clone:
+    """A clone of which the package has taken its files."""
+    clone.pack()
+    return clone
 
 
-def test_nothing_private(clone: Clone) -> None:
-    """No file that came is a link, or has what the operator left."""
-    for name in sorted(clone.came(Path())):
-        file = clone.to / name
+def is_packed(top: Path, name: Path) -> bool:
+    """Whether a file of the clone is one of the programs and modules of the package."""
+    is_python = name.suffix == ".py" or b"python3" in (top / name).read_bytes().split(b"\n")[0]
+    return name.parts[0] in ("pilot", "python") and is_python and name not in OF_THE_CLONE
+
+
+def test_what_is_packed(packed: Clone) -> None:
+    """The programs, their modules, units and documents come; what lies beside them doesn't."""
+    assert packed.came(LIB) == {name for name in packed.own if is_packed(packed.top, name)}
+    units = Path("packaging/systemd")
+    due = {name.relative_to(units) for name in packed.own if name.is_relative_to(units)}
+    assert packed.came(UNITS_TO) == due
+    settings = {Path(name) for name in ("lnsd.conf", "bridges.conf", "gateways")}
+    assert packed.came("etc/bozintar") == settings
+    assert {str(name) for name in packed.came(DOC)} >= {"README.Debian", "examples/mosquitto.acl"}
+
+
+def test_nothing_private(packed: Clone) -> None:
+    """No file that came is a link, or has what somebody left in the clone."""
+    for name in sorted(packed.came("")):
+        file = packed.to / name
         assert not file.is_symlink(), name
         assert SECRET not in file.read_text(encoding="utf-8"), name
 
 
-def test_modes(clone: Clone) -> None:
-    """Programs can be run, and all users can read all but the folder for lists and keys."""
-    for file in sorted(clone.to.rglob("*")):
-        is_run = file.is_dir() or is_program(file)
-        due = 0o700 if file.name == "bozintar" and file.parent.name == "etc" else 0o755
-        name = file.relative_to(clone.to)
-        assert oct(mode_of(file)) == oct(due if is_run else 0o644), name
-
-
-def test_installed_programs(clone: Clone) -> None:
-    """Each program has all that it needs."""
-    for name in RUN:
-        words = [str(clone.to / PROGRAMS / "pilot" / name), "--help"]
-        ended = subprocess.run(words, capture_output=True, text=True, check=False)
-        assert (ended.returncode, ended.stderr) == (0, ""), name
-
-
-def test_installed_again(clone: Clone) -> None:
-    """Installed again, programs are replaced, and what is in /etc stays and is named if it
-    differs."""
-    settings, old = clone.to / SETTINGS, clone.to / PROGRAMS / "pilot/old"
-    settings.write_text("# the operator's own\n", encoding="utf-8")
-    old.write_text("of an earlier version", encoding="utf-8")
-    ended = clone.install()
-    assert (ended.returncode, ended.stderr) == (0, "")
-    assert clone.came(PROGRAMS) == clone.own
-    assert settings.read_text(encoding="utf-8") == "# the operator's own\n"
-    named = [line for line in ended.stdout.splitlines() if ", and isn't " in line]
-    stays = f"{settings} is there already, and stays as it is"
-    assert named == [f"{stays}, and isn't {clone.top}/pilot/mosquitto.conf"]
+def test_modes(packed: Clone) -> None:
+    """Programs can be run, and all users can read all files; postinst closes /etc/bozintar."""
+    for name in sorted(packed.came("")):
+        file = packed.to / name
+        due = 0o755 if is_program(file) else 0o644
+        assert oct(stat.S_IMODE(file.stat().st_mode)) == oct(due), name
+    script = (TOP / "packaging/debian/bozintar.postinst").read_text(encoding="utf-8")
+    assert "chmod 0750 /etc/bozintar\n" in script
 
 
 @pytest.mark.parametrize("name", ("pilot/alerts.yml", "pilot/bridges", "python/bozintar"))
 def test_link_in_place(clone: Clone, name: str) -> None:
-    """A link in the place of a file, or of a folder, isn't followed; what is installed stays."""
+    """A link in the place of a file, or of a folder, isn't followed: no package is made."""
     place, aside = clone.top / name, clone.top.parent / "aside"
     place.rename(aside)
     place.symlink_to(aside)
-    ended = clone.install()
-    assert (ended.returncode, ended.stderr.count("\n")) == (1, 1), ended.stderr
-    assert "symbolic link" in ended.stderr
-    assert clone.came(PROGRAMS) == clone.own
+    with pytest.raises(Failed, match="symbolic link"):
+        clone.pack()
 
 
-@pytest.mark.parametrize(
-    "words", (("--root", "/nowhere"), ("--look", "--services", "--root", "/nowhere"))
-)
-def test_root_without_services(words: tuple) -> None:
-    """--root goes with --services alone."""
-    status, _, said = run("install", *words)
-    assert (status, said.count("\n")) == (2, 1)
-    assert not os.path.exists("/nowhere"), "it makes no folder"
+def settings(*changes: tuple[str, str]) -> dict[str, str]:
+    """The settings of the package for the server, with changes as an operator makes them."""
+    text = (TOP / "packaging/files/lnsd.conf").read_text(encoding="utf-8")
+    for old, new in changes:
+        assert f"\n{old}\n" in text
+        text = text.replace(old, new)
+    return dict(re.findall(r"^([A-Z]+)=(.*)$", text, re.MULTILINE))
 
 
-def of_the_unit(store: str, program: str) -> list[str]:
-    """The command by which the unit of lnsd makes a store."""
-    text = (PILOT.parent / "contrib/lnsd.service").read_text(encoding="utf-8")
+def first_start(server: Program, given: dict[str, str], **how: Any) -> Ended:
+    """Does what the unit of lnsd does before it starts the server."""
+    text = (TOP / "packaging/systemd/lnsd.service").read_text(encoding="utf-8")
     found = re.search(r"^ExecStartPre=((?:.*\\\n)*.*)", text, re.MULTILINE)
     assert found
-    line = found[1]
-    line = line.replace("\\\n", "").replace("/usr/local/bin/lnsd", program)
-    return shlex.split(line.replace("%S/lnsd/store", store))
-
-
-def of_the_hour(store: str, program: str) -> list[str]:
-    """The command by which the hour of the README makes a store."""
-    text = (PILOT / "README.md").read_text(encoding="utf-8")
-    found = re.search(r"^ +bin/lnsd (format .*)", text, re.MULTILINE)
-    assert found
-    return [program, *found[1].replace("~/pilot/store", store).split()]
+    line = found[1].replace("\\\n", "").replace("/usr/bin/lnsd", server.path)
+    words = shlex.split(line.replace("%S/lnsd/store", server.store))
+    how |= {"capture_output": True, "text": True, "check": False}
+    ended = subprocess.run(words, env={"PATH": "/usr/bin:/bin", **given}, **how)
+    return ended.returncode, ended.stdout, ended.stderr
 
 
 @pytest.fixture
@@ -201,13 +187,50 @@ def server(program: str) -> Iterator[Program]:
         yield made
 
 
-@pytest.mark.parametrize("command_of, times", ((of_the_unit, 2), (of_the_hour, 1)))
-def test_first_store(server: Program, command_of: Callable, times: int) -> None:
-    """The unit and the hour make a store of 4,096 slots, and the unit leaves one that is there."""
-    words = command_of(server.store, server.path)
-    for _ in range(times):
-        ended = subprocess.run(words, capture_output=True, text=True, check=False)
-        assert (ended.returncode, ended.stdout, ended.stderr) == (0, "", "")
+def test_first_store(server: Program) -> None:
+    """Once NETID is set, the unit makes a store of 4,096 slots, and leaves one that is there."""
+    given = settings(("#NETID=000000", "NETID=00002A"))
+    assert first_start(server, given) == (0, "", "")
+    assert first_start(server, given) == (0, "", "")
     size = os.stat(server.store).st_size
     server.run_on()
     assert (int(server.status()["slots"]), size) == (MOST_SLOTS, MOST_BYTES)
+    assert server.stop()[0] == 0
+    assert first_start(server, settings()) == (0, "", ""), "a store needs no NetID"
+
+
+def test_no_net_id(server: Program) -> None:
+    """The settings as they are installed have no NetID: the unit names the file, makes no store,
+    and isn't started again, since lnsd run then ends with status 1."""
+    said = f"NETID is not set: set it in {CONF}\n"
+    assert first_start(server, settings()) == (0, "", said)
+    assert not os.path.exists(server.store)
+    assert server.run("run", server.store, "--listen", "127.0.0.1:0")[0] == 1
+
+
+@pytest.mark.parametrize(
+    "net_id, slots", (("2A", "4096"), ("00002A", "4097"), ("00002A", "")), ids=str
+)
+def test_wrong_settings(server: Program, net_id: str, slots: str) -> None:
+    """Wrong settings make no store, and the unit isn't started again."""
+    status, _, said = first_start(server, {"NETID": net_id, "SLOTS": slots})
+    assert (status, said.startswith("error: ")) == (0, True), said
+    assert not os.path.exists(server.store)
+
+
+def test_store_that_cannot_be_made(server: Program) -> None:
+    """If the store can't be made, the unit is started again."""
+    os.rmdir(server.folder)
+    given = settings(("#NETID=000000", "NETID=00002A"))
+    assert first_start(server, given) == (1, "", "lnsd: file\n")
+
+
+def test_store_of_another_user(server: Program) -> None:
+    """If the store belongs to another user, as after a restore by root, the unit prints what to
+    do."""
+    assert server.format() == (0, "", "")
+    os.chmod(server.folder, 0o755)
+    os.chmod(server.store, 0o400)
+    how = {} if os.getuid() else {"user": "nobody"}
+    said = f"{server.store} belongs to another user: chown lnsd: {server.store}\n"
+    assert first_start(server, settings(), **how) == (0, "", said)

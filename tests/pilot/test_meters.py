@@ -1,5 +1,5 @@
-"""What the meters of trials do with downlinks that come late or twice. Two gateways may
-have to send at one moment, if copies of an uplink come so far apart that the network answers it twice."""
+"""What the meters of trials do with downlinks that come late or twice. Two gateways may have to
+send at one moment, if copies of an uplink come so far apart that the network answers it twice."""
 
 import pytest
 from bozintar.devices import Rejected

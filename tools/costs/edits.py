@@ -27,9 +27,9 @@ def toolchain():
     spec: Any = importlib.util.spec_from_loader("rt", loader)
     made = importlib.util.module_from_spec(spec)
     loader.exec_module(made)
-    for it in ("checked", "edits_of", "read_edit", "rtlib"):
-        if not hasattr(made, it):
-            stop(f"this toolchain's rt has no {it}, which this reads (rattle-kit-13b has it)")
+    for name in ("checked", "edits_of", "read_edit", "rtlib"):
+        if not hasattr(made, name):
+            stop(f"this toolchain's rt has no {name}, which this reads (rattle-kit-13b has it)")
     return made
 
 
@@ -61,11 +61,11 @@ def main():
     commands.need_rt()
     rt = toolchain()
     os.chdir(ROOT)
-    crate = next(it for it in rt.rtlib.crates_below(ROOT) if it.name == given.crate)
-    edits = {os.path.basename(it)[: -len(".edit")]: it for it in rt.edits_of(crate)[0]}
-    for it in given.edits:
-        if it not in edits:
-            stop(f"{given.crate} has no edit {it}; it has {', '.join(edits) or 'none'}", 2)
+    crate = next(crate for crate in rt.rtlib.crates_below(ROOT) if crate.name == given.crate)
+    edits = {os.path.basename(path)[: -len(".edit")]: path for path in rt.edits_of(crate)[0]}
+    for name in given.edits:
+        if name not in edits:
+            stop(f"{given.crate} has no edit {name}; it has {', '.join(edits) or 'none'}", 2)
     kept = f"{crate.folder}/out/incremental"
     if not os.path.isdir(kept):
         stop(f"no check of {given.crate} kept anything: run rt check --jobs 1 there")
@@ -77,7 +77,7 @@ def main():
             print(f"BAD EDIT {label}: {why}")
             continue
         spent, search, said = tried(rt, crate, texts, kept)
-        told = next((it for it in said if ": error" in it or it.startswith("note: ")), "")
+        told = next((line for line in said if ": error" in line or line.startswith("note: ")), "")
         cost = f"{spent - nothing:6.1f} {search:6.1f}"
         print(f"{cost}  {label}: {said[-1][:18]}; {told[:150]}", flush=True)
     return 0

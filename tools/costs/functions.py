@@ -28,11 +28,11 @@ def modules(crate):
     """The modules that the prover kept: when each was done, and its bytes; the first one first."""
     found = []
     for folder, _, files in os.walk(f"{ROOT}/crates/{crate}/out/incremental"):
-        kept = [(os.stat(f"{folder}/{it}"), it) for it in files if it.endswith(".oantt")]
-        found += [(stat.st_mtime, stat.st_size, it) for stat, it in kept]
+        kept = [(os.stat(f"{folder}/{name}"), name) for name in files if name.endswith(".oantt")]
+        found += [(stat.st_mtime, stat.st_size, name) for stat, name in kept]
     cut = len(f"Rattle-{crate}-")
     ending = re.compile(r"(\.decls)?\.oantt$")
-    return [(at, size, ending.sub("", it)[cut:]) for at, size, it in sorted(found)]
+    return [(at, size, ending.sub("", name)[cut:]) for at, size, name in sorted(found)]
 
 
 def dearest(crate):
@@ -46,7 +46,7 @@ def dearest(crate):
         sizes[name][part[1] if part else "itself"] += size
         seconds[name] += at - before
     sizes.pop("", None)  # the crate itself, before which the libraries are read
-    order = sorted(sizes.items(), key=lambda it: -sum(it[1].values()))
+    order = sorted(sizes.items(), key=lambda pair: -sum(pair[1].values()))
     return [(name, parts, seconds[name]) for name, parts in order[:MOST]]
 
 

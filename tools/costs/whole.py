@@ -142,10 +142,13 @@ def table(spent):
     """The lines of the table: a crate each, and the sums."""
     yield f"{'crate':<16} {'proof':>6} {'tests':>6} {'edits':>6}"
     for crate in commands.lines():
-        row = [spent.get((crate, kind)) for kind in KINDS]
-        yield f"{crate:<16} {' '.join('     -' if it is None else f'{it / 60:6.1f}' for it in row)}"
-    sums = [sum(it for (_, kind), it in spent.items() if kind == each) / 60 for each in KINDS]
-    yield f"{'all':<16} {' '.join(f'{it:6.1f}' for it in sums)}"
+        spends = [spent.get((crate, kind)) for kind in KINDS]
+        row = ["     -" if seconds is None else f"{seconds / 60:6.1f}" for seconds in spends]
+        yield f"{crate:<16} {' '.join(row)}"
+    sums = [
+        sum(seconds for (_, kind), seconds in spent.items() if kind == each) / 60 for each in KINDS
+    ]
+    yield f"{'all':<16} {' '.join(f'{seconds:6.1f}' for seconds in sums)}"
 
 
 def keep(told):
@@ -198,17 +201,17 @@ def main():
         try:
             for root, many, log in zip(roots, lanes, logs):
                 gates.append(Gate(root, given.crates, many, log))
-            while any([it.look() for it in gates]):
+            while any([gate.look() for gate in gates]):
                 time.sleep(0.25)
         finally:
-            for it in gates:
-                it.stop()
+            for gate in gates:
+                gate.stop()
     told = list(table(gates[0].spent()))
     print("\n".join(told), end="\n\n")
     if given.keep and not gates[0].status:
         keep(told)
     print(f"on {os.cpu_count()} processors, {gates[0].told()}")
-    for it in gates[1:]:
-        print(f"beside it {given.beside}, {it.told()}")
-        print(f"{gates[0].minutes / it.minutes:.2f} times {given.beside}")
+    for gate in gates[1:]:
+        print(f"beside it {given.beside}, {gate.told()}")
+        print(f"{gates[0].minutes / gate.minutes:.2f} times {given.beside}")
     return gates[0].status

@@ -1,2 +1,1 @@
-"""What the commands lnsd-* stand on: loads, trials, measurements, and a plain model, around the
-server program lnsd."""
+"""What tools and trials around the server program lnsd stand on."""

@@ -62,7 +62,7 @@ class Sim:
         return "idle" if self.begun or self.calls_left else self.begin(most, lack)
 
     def next(self, most, lack):
-        return self.begin(most, lack) if [it.calls for it in self.begun] == [3] else "idle"
+        return self.begin(most, lack) if [batch.calls for batch in self.begun] == [3] else "idle"
 
     def begin(self, most, lack):
         if not self.waiting:
@@ -126,7 +126,7 @@ class Sim:
 
     def crash(self, image, lack):
         if image == "new":
-            torn = [it for it in self.begun if it.calls == 3]
+            torn = [batch for batch in self.begun if batch.calls == 3]
             self.disk += torn[0].decisions if torn else []
         self.open()
         if lack:
@@ -143,7 +143,7 @@ class Sim:
 def steps():
     """The steps of all lives."""
     letters = LIVES.replace(" ", "").replace("\n", "")
-    return [("provision", int(it)) if it.isdigit() else STEPS[it] for it in letters]
+    return [("provision", int(letter)) if letter.isdigit() else STEPS[letter] for letter in letters]
 
 
 def line_of(step):

@@ -134,7 +134,7 @@ UNFIT = (
 
 def parted(script):
     """The steps of a script, and their answers."""
-    pairs = [it.split(": ") for it in script.split("\n")]
+    pairs = [line.split(": ") for line in script.split("\n")]
     return [step for step, _ in pairs], [answer.replace("/", "\n") for _, answer in pairs]
 
 
@@ -162,7 +162,7 @@ def compared(script, ways, rows):
 
 def checked():
     """How many comparisons held, and what is wrong with the others."""
-    wrong = [it for row in TABLE for it in compared(*row)]
+    wrong = [fault for row in TABLE for fault in compared(*row)]
     for script in UNFIT:
         try:
             Script(parted(script)[0], player([script]))

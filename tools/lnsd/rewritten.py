@@ -49,7 +49,7 @@ def answers_of(lines, wrote):
     for line in lines:
         size = 1
         if line == "list":
-            size += len(list(takewhile(lambda it: it[:1].isdigit(), rest)))
+            size += len(list(takewhile(lambda line: line[:1].isdigit(), rest)))
         answers.append("\n".join(rest[:size]))
         del rest[:size]
     if rest != [""] or not all(answers):
@@ -70,15 +70,16 @@ class Script:
     def crash_behind(self, place):
         """The place of the next crash, or the script's length."""
         places = range(place + 1, len(self.lines))
-        return next((it for it in places if word_of(self.lines[it]) == "crash"), len(self.lines))
+        return next((at for at in places if word_of(self.lines[at]) == "crash"), len(self.lines))
 
     def life_of(self, place):
         """The place of the line that began this life."""
-        return max([0, *(it for it in range(place) if word_of(self.lines[it]) == "crash")])
+        return max([0, *(at for at in range(place) if word_of(self.lines[at]) == "crash")])
 
     def windows_due(self):
         """How many windows are due at each event."""
-        due, opened, now = {}, {}, 0
+        due, now = {}, 0
+        opened: dict[str, int] = {}
         for place, (line, answer) in enumerate(zip(self.lines, self.ample)):
             if word_of(line) == "crash":
                 opened, now = {}, 0
@@ -90,16 +91,16 @@ class Script:
             if len(closed) > 1:
                 raise Unfit(f"several windows are due at line {place + 1}")
             due[place] = len(closed)
-            for it in closed:
-                del opened[it]
+            for frame in closed:
+                del opened[frame]
             if word_of(line) == "hear" and not turn[3]:
                 opened.setdefault(line.rpartition(" ")[2], now)
         return due
 
     def made_before(self, place):
         """How many decisions this life had made before a place."""
-        turns = (TURN.fullmatch(it) for it in self.ample[self.life_of(place) + 1 : place])
-        return max([0, *(int(it[2]) for it in turns if it)])
+        turns = (TURN.fullmatch(answer) for answer in self.ample[self.life_of(place) + 1 : place])
+        return max([0, *(int(turn[2]) for turn in turns if turn)])
 
     def ways(self):
         """Each step that may want for memory, with each of its ways, and whether that has to be
@@ -122,6 +123,7 @@ class Script:
         """Whether the frame of a window that an event closes is decided: the turn has a decision
         beside the event's own."""
         turn = TURN.fullmatch(self.ample[place])
+        assert turn
         own = word_of(self.lines[place]) in REQUESTS and not turn[3]
         return int(turn[2]) - int(turn[1]) > own
 
@@ -129,7 +131,7 @@ class Script:
         """What is written where the step at this place wants for memory in this way."""
         lines, said = self.rewritten(place, way)
         came = dict(zip(lines, self.play(list(lines.values()))))
-        return "\n".join([*(said.get(it, came.get(it)) for it in range(len(self.lines))), ""])
+        return "\n".join([*(said.get(at, came.get(at)) for at in range(len(self.lines))), ""])
 
     def rewritten(self, place, way):
         """The rewritten script, its lines by their places; and the answers that stand for its own,
@@ -146,9 +148,9 @@ class Script:
             del lines[place]
         elif way == "its opening":
             said[place] = OUT_OF_MEMORY
-            for it in range(place + 1, self.crash_behind(place)):
-                said[it] = self.ample[it] if self.ample[it] == "bad line" else "idle"
-                del lines[it]
+            for at in range(place + 1, self.crash_behind(place)):
+                said[at] = self.ample[at] if self.ample[at] == "bad line" else "idle"
+                del lines[at]
         elif way == "lost":
             said = self.lost(lines, place)
         else:
@@ -159,30 +161,30 @@ class Script:
     def not_before(self, lines, place):
         """Lets no later event of this life be before the moment of this one."""
         moment = moment_of(lines[place])
-        for it in range(place + 1, self.crash_behind(place)):
-            if it in self.due and moment_of(lines[it]) < moment:
-                lines[it] = with_moment(lines[it], moment)
+        for at in range(place + 1, self.crash_behind(place)):
+            if at in self.due and moment_of(lines[at]) < moment:
+                lines[at] = with_moment(lines[at], moment)
 
     def lost(self, lines, place):
         """Takes a lost batch and those of its life after it out of the lines; their answers."""
         said, waiting = {}, 0
-        for it in range(self.life_of(place) + 1, self.crash_behind(place)):
-            turn, taken = TURN.fullmatch(self.ample[it]), re.match(r"taken (\d+)", self.ample[it])
+        for at in range(self.life_of(place) + 1, self.crash_behind(place)):
+            turn, taken = TURN.fullmatch(self.ample[at]), re.match(r"taken (\d+)", self.ample[at])
             if turn:
                 waiting += int(turn[2]) - int(turn[1])
-            if word_of(self.lines[it]) not in BEGIN or self.ample[it] == "bad line":
+            if word_of(self.lines[at]) not in BEGIN or self.ample[at] == "bad line":
                 continue
-            if it < place:
+            if at < place:
                 waiting -= int(taken[1]) if taken else 0
                 continue
             # what it would begin is asked of the script up to it
-            asked = self.play([line for at, line in lines.items() if at <= it])[-1]
-            del lines[it]
+            asked = self.play([line for number, line in lines.items() if number <= at])[-1]
+            del lines[at]
             begins = asked.startswith("taken ")
-            said[it] = asked if waiting or asked == "refused 41" else "idle"
+            said[at] = asked if waiting or asked == "refused 41" else "idle"
             if waiting and begins:
-                waiting -= min(waiting, int(self.lines[it].split(" ")[1]))
-                said[it] = OUT_OF_MEMORY if it == place else "refused 42"
+                waiting -= min(waiting, int(self.lines[at].split(" ")[1]))
+                said[at] = OUT_OF_MEMORY if at == place else "refused 42"
         return said
 
     def outputs(self):

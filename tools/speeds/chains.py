@@ -43,7 +43,7 @@ def measured(program, where, how):
         timeout=SECONDS,
         check=False,
     )
-    found = [tuple(map(int, it)) for it in LINE.findall(ran.stderr)]
+    found = [tuple(map(int, numbers)) for numbers in LINE.findall(ran.stderr)]
     if ran.returncode != 0 or len(found) != 2:
         said = ran.stderr.strip().partition("\n")[0]
         stop(f"nothing was measured, with status {ran.returncode}: {said}")
@@ -52,8 +52,8 @@ def measured(program, where, how):
 
 def medians(runs):
     """The runs' medians of decisions a second, alone and in chains, and the calls of all runs."""
-    rates = [statistics.median(run[it][0] for run in runs) for it in range(2)]
-    return rates, {tuple(it[1] for it in run) for run in runs}
+    rates = [statistics.median(run[which][0] for run in runs) for which in range(2)]
+    return rates, {tuple(pair[1] for pair in run) for run in runs}
 
 
 def told(delay, runs, rates, calls):

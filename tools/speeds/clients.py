@@ -7,7 +7,7 @@ import struct
 import time
 from array import array
 
-import lnsd.load
+import bozintar.load
 from bozintar import wire
 from bozintar.links import Application
 from bozintar.processes import Failed
@@ -36,7 +36,7 @@ class OfLnsd:
     """A client of lnsd: its items are for devices that are its own."""
 
     def __init__(self, address, number, clients, devices):
-        names = [lnsd.load.dev_eui(it) for it in range(number, devices, clients)]
+        names = [bozintar.load.dev_eui(device) for device in range(number, devices, clients)]
         asked = [(name, FIRST_TAG + tag) for tag in range(ITEMS) for name in names]
         self.requests = [wire.request(f"queue {name} {tag} 7 u {ITEM}") for name, tag in asked]
         answers = (f"\x13queued {name} {tag}".encode() for name, tag in asked)
@@ -57,7 +57,7 @@ class OfPostgres:
 
     def __init__(self, address, number, clients, devices):
         count = ITEMS * devices // clients
-        rows = ((it % devices, it) for it in range(number * count, number * count + count))
+        rows = ((sent % devices, sent) for sent in range(number * count, number * count + count))
         self.requests = [self.bound(str(device), str(counter)) for device, counter in rows]
         self.answers, self.length = DONE * count, len(DONE)
         self.socket = socket.create_connection(address)
@@ -81,7 +81,7 @@ class OfPostgres:
     @staticmethod
     def bound(*values):
         """The message by which these values become a row."""
-        texts = b"".join(struct.pack("!i", len(it)) + it.encode() for it in values)
+        texts = b"".join(struct.pack("!i", len(value)) + value.encode() for value in values)
         bind = message(b"B", b"\0s\0", struct.pack("!hh", 0, 2), texts, struct.pack("!h", 0))
         return bind + message(b"E", b"\0", struct.pack("!i", 0)) + message(b"S")
 
@@ -111,7 +111,7 @@ def asked(client, window, seconds):
         if not came[-1]:
             raise Failed("the server has closed the connection")
         answered = received // client.length
-        waits.extend(now - it for it in begun[done:answered])
+        waits.extend(now - start for start in begun[done:answered])
         done = answered
     if b"".join(came) != client.answers[: done * client.length]:
         raise Failed("another answer came")
@@ -143,7 +143,7 @@ def side_by_side(kind, address, clients, window, seconds, devices):
         processes.append(context.Process(target=one, args=how, daemon=True))
         processes[-1].start()
         ends.append(result)
-    found = [it.recv() if it.poll(120) else "a client is silent" for it in ends]
+    found = [end.recv() if end.poll(120) else "a client is silent" for end in ends]
     for process in processes:
         process.join(10)
         process.kill()

@@ -24,10 +24,10 @@ def share(values, part):
 
 def spread(nanoseconds):
     """Median and 99th percentile in ms, and the percentiles from 0 to 100 that a plot needs."""
-    values = sorted(it / 1e6 for it in nanoseconds)
+    values = sorted(taken / 1e6 for taken in nanoseconds)
     if not values:
         return {"count": 0}
-    percentiles = [round(share(values, it / 1000), 4) for it in range(0, 1001, 5)]
+    percentiles = [round(share(values, permille / 1000), 4) for permille in range(0, 1001, 5)]
     return {
         "count": len(values),
         "median_ms": round(share(values, 0.5), 3),
@@ -65,7 +65,7 @@ def told(pairs):
 def syncs(folder):
     """How long `fdatasync` takes here, as a commit calls it, if nothing else is running."""
     with file_in(folder) as number:
-        return told([committed(number, it * BATCH) for it in range(MOST_SYNCS)])
+        return told([committed(number, batch * BATCH) for batch in range(MOST_SYNCS)])
 
 
 class Probe:
@@ -97,7 +97,7 @@ class Probe:
 def memory(pid):
     """VmRSS and VmHWM of a process in MiB."""
     of = f"/proc/{pid}/status"
-    kib = {it: commands.number_in(of, rf"{it}:\s+(\d+)") for it in ("VmRSS", "VmHWM")}
+    kib = {name: commands.number_in(of, rf"{name}:\s+(\d+)") for name in ("VmRSS", "VmHWM")}
     return {name: round(value / 1024, 1) for name, value in kib.items()}
 
 
@@ -105,9 +105,9 @@ def times_of(pid, ended=False):
     """The processor time in seconds that a process has taken in the program and in the kernel; also
     with that of the processes that it has started and that have ended."""
     with open(f"/proc/{pid}/stat", encoding="utf-8") as file:
-        words = [int(it) for it in file.read().rpartition(")")[2].split()[11:15]]
+        words = [int(word) for word in file.read().rpartition(")")[2].split()[11:15]]
     ticks = os.sysconf("SC_CLK_TCK")
-    user, kernel = (words[it] + ended * words[it + 2] for it in (0, 1))
+    user, kernel = (words[place] + ended * words[place + 2] for place in (0, 1))
     return user / ticks, kernel / ticks
 
 
@@ -130,12 +130,12 @@ def of_task(pid, task):
 
 def tasks(pid):
     """What each thread of a process has taken."""
-    return {it: of_task(pid, it) for it in os.listdir(f"/proc/{pid}/task")}
+    return {task: of_task(pid, task) for task in os.listdir(f"/proc/{pid}/task")}
 
 
 def switches(pid):
     """How often the threads of a process were taken off a processor, by their own will or not."""
-    return sum(it[2] for it in tasks(pid).values())
+    return sum(times[2] for times in tasks(pid).values())
 
 
 def calls(pid, seconds):
@@ -145,11 +145,11 @@ def calls(pid, seconds):
         return None
     with tempfile.NamedTemporaryFile() as told:
         words = ["strace", "-f", "-qq", "-o", told.name, "-p", str(pid)]
-        it = subprocess.Popen(words, stderr=subprocess.PIPE)
+        tried = subprocess.Popen(words, stderr=subprocess.PIPE)
         time.sleep(seconds)
-        may_look = it.poll() is None
-        it.send_signal(signal.SIGINT)
-        it.communicate(timeout=10)
+        may_look = tried.poll() is None
+        tried.send_signal(signal.SIGINT)
+        tried.communicate(timeout=10)
         lines = told.read().decode(errors="replace").splitlines()
     # what each thread waits in while strace looks has a line too, without a result
     done = [line for line in lines if " = " in line or " resumed>" in line]
@@ -166,13 +166,13 @@ def counted(pid):
         return
     with tempfile.NamedTemporaryFile() as told:
         words = ["strace", "-f", "-c", "-qq", "-o", told.name, "-p", str(pid)]
-        it = subprocess.Popen(words, stderr=subprocess.DEVNULL)
+        recorded = subprocess.Popen(words, stderr=subprocess.DEVNULL)
         time.sleep(1)
         try:
             yield found
         finally:
-            it.send_signal(signal.SIGINT)
-            it.wait(timeout=30)
+            recorded.send_signal(signal.SIGINT)
+            recorded.wait(timeout=30)
         lines = (line.split() for line in told.read().decode().splitlines()[2:-2])
         found.update({words[-1]: int(words[3]) for words in lines if len(words) > 4})
 
@@ -192,10 +192,12 @@ def idle(pid, seconds):
 def by_command(*words):
     """The first line that a command prints, or nothing."""
     try:
-        it = subprocess.run(words, capture_output=True, check=False, cwd=commands.ROOT, timeout=20)
+        asked = subprocess.run(
+            words, capture_output=True, check=False, cwd=commands.ROOT, timeout=20
+        )
     except (OSError, subprocess.TimeoutExpired):
         return ""
-    return it.stdout.decode().partition("\n")[0].strip()
+    return asked.stdout.decode().partition("\n")[0].strip()
 
 
 def machine(folder):

@@ -31,9 +31,9 @@ def curves(found):
     """Name, and percentiles in ms, of what is compared."""
     shown = [
         (f"{int(rate):,} uplinks a second", load["latency"]["percentiles_ms"])
-        for rate, load in sorted(found["loads"].items(), key=lambda it: int(it[0]))
+        for rate, load in sorted(found["loads"].items(), key=lambda pair: int(pair[0]))
     ]
-    most = max(found["loads"].items(), key=lambda it: int(it[0]))[1]
+    most = max(found["loads"].items(), key=lambda pair: int(pair[0]))[1]
     return [*shown, ("two syncs of another file then", most["syncs"]["two"]["percentiles_ms"])]
 
 
@@ -43,7 +43,9 @@ def by_matplotlib(found, png):
 
     figure, plot = pyplot.subplots(figsize=(5.5, 4.4), dpi=110)
     for (name, values), colour in zip(curves(found), COLOURS):
-        plot.plot(values, [it / 2 for it in range(len(values))], label=name, color=colour)
+        plot.plot(
+            values, [permille / 2 for permille in range(len(values))], label=name, color=colour
+        )
     plot.set(title=LATENCY, xlabel="ms", ylabel="% of uplinks", xscale="log", ylim=(0, 100))
     plot.set_xlim(left=LEAST)
     plot.legend(loc="lower right")

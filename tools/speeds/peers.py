@@ -29,19 +29,19 @@ def sqlite(folder, seconds):
     """Commits a second of SQLite, one client."""
     waits: list = []
     with tempfile.TemporaryDirectory(dir=folder) as room:
-        it = sqlite3.connect(f"{room}/uplinks", isolation_level=None)
-        mode = it.execute("PRAGMA journal_mode=WAL").fetchone()[0]
-        it.execute("PRAGMA synchronous=FULL")
-        it.execute(TABLE.format(bytes="BLOB"))
+        database = sqlite3.connect(f"{room}/uplinks", isolation_level=None)
+        mode = database.execute("PRAGMA journal_mode=WAL").fetchone()[0]
+        database.execute("PRAGMA synchronous=FULL")
+        database.execute(TABLE.format(bytes="BLOB"))
         insert = f"INSERT INTO uplinks VALUES ({','.join('?' * 10)})"
         begun = time.monotonic()
         while time.monotonic() - begun < seconds:
             row = (len(waits) % 4096, 1, len(waits), 7, bytes.fromhex(PAYLOAD))
             now = time.monotonic_ns()
-            it.execute(insert, (*row, 177, 868_100_000, 5, -20, -95))
+            database.execute(insert, (*row, 177, 868_100_000, 5, -20, -95))
             waits.append(time.monotonic_ns() - now)
         took = time.monotonic() - begun
-        it.close()
+        database.close()
     told = {"version": sqlite3.sqlite_version, "journal_mode": mode, "synchronous": "FULL"}
     return {**told, "commits_a_second": round(len(waits) / took), **spread(waits)}
 
@@ -50,7 +50,7 @@ def found():
     """The programs of PostgreSQL."""
     places = sorted(glob.glob("/usr/lib/postgresql/*/bin"), reverse=True)
     path = os.pathsep.join([*places, os.environ.get("PATH", "")])
-    programs = {it: shutil.which(it, path=path) for it in NEEDED}
+    programs = {name: shutil.which(name, path=path) for name in NEEDED}
     if not all(programs.values()):
         raise Missing(INSTALL)
     return programs
@@ -62,8 +62,8 @@ def owner():
         return {}
     for name in ("postgres", "nobody"):
         try:
-            it = pwd.getpwnam(name)
-            return {"user": it.pw_uid, "group": it.pw_gid, "extra_groups": []}
+            user = pwd.getpwnam(name)
+            return {"user": user.pw_uid, "group": user.pw_gid, "extra_groups": []}
         except KeyError:
             pass
     raise Missing("PostgreSQL doesn't run as root, and there is no user postgres")
@@ -72,11 +72,11 @@ def owner():
 def children(pid):
     """The processes that a process has started and that have not ended."""
     found = []
-    for it in filter(str.isdigit, os.listdir("/proc")):
+    for name in filter(str.isdigit, os.listdir("/proc")):
         try:
-            with open(f"/proc/{it}/stat", encoding="utf-8") as file:
+            with open(f"/proc/{name}/stat", encoding="utf-8") as file:
                 if file.read().rpartition(")")[2].split()[1] == str(pid):
-                    found.append(int(it))
+                    found.append(int(name))
         except OSError:
             pass
     return found
@@ -90,9 +90,9 @@ class Postgres:
         self.room = tempfile.mkdtemp(prefix="lnsd-peer-", dir=folder)
         # the path of a socket is short
         self.socket = tempfile.mkdtemp(prefix="lnsd-peer-")
-        for it in (self.room, self.socket):
+        for folder in (self.room, self.socket):
             if self.how:
-                os.chown(it, self.how["user"], self.how["group"])
+                os.chown(folder, self.how["user"], self.how["group"])
         self.server: Any = None
         self.address = (HOST, free_port())
 
@@ -104,10 +104,10 @@ class Postgres:
             "check": False,
             "timeout": 120,
         }
-        it = subprocess.run([self.programs[name], *words], **how, **self.how, **more)
-        if it.returncode:
-            raise Missing(f"{name}: {it.stderr.decode(errors='replace').strip()[:300]}")
-        return it.stdout.decode()
+        ran = subprocess.run([self.programs[name], *words], **how, **self.how, **more)
+        if ran.returncode:
+            raise Missing(f"{name}: {ran.stderr.decode(errors='replace').strip()[:300]}")
+        return ran.stdout.decode()
 
     def __enter__(self):
         try:
@@ -149,7 +149,7 @@ class Postgres:
     def seconds(self):
         """The processor time that its processes have taken, also those that have ended."""
         own = sum(times_of(self.server.pid, True))
-        return own + sum(sum(times_of(it)) for it in children(self.server.pid))
+        return own + sum(sum(times_of(child)) for child in children(self.server.pid))
 
     def __exit__(self, *_):
         if self.server:
@@ -159,5 +159,5 @@ class Postgres:
             except subprocess.TimeoutExpired:
                 self.server.kill()
                 self.server.wait()
-        for it in (self.room, self.socket):
-            shutil.rmtree(it, ignore_errors=True)
+        for folder in (self.room, self.socket):
+            shutil.rmtree(folder, ignore_errors=True)

@@ -18,10 +18,10 @@ import time
 from array import array
 from collections import Counter
 
-import lnsd.load
+import bozintar.load
 from bozintar.links import Application, Gateway, Link
 from bozintar.processes import Failed
-from lnsd.operating import connect_anew
+from lnsd.anew import connect_anew
 from speeds import runs
 from speeds.measure import counted, idle, seconds_of, spread, tasks, times_of
 from speeds.runs import APPLICATIONS, DEVICES, GATEWAYS
@@ -66,8 +66,8 @@ class Turns:
             "uplinks_a_second": round(self.count / self.seconds, 1),
             "processor_us": self.of_uplink(1e6 * (self.user + self.kernel)),
             "kernel_us": self.of_uplink(1e6 * self.kernel),
-            "threads_us": {it: self.of_uplink(ran / 1000) for it, ran in self.ran.items()},
-            "switches": {it: self.of_uplink(count, 3) for it, count in self.switches.items()},
+            "threads_us": {role: self.of_uplink(ran / 1000) for role, ran in self.ran.items()},
+            "switches": {role: self.of_uplink(count, 3) for role, count in self.switches.items()},
         }
         for name in ("commits", "syncs"):
             if self.status:
@@ -78,7 +78,7 @@ class Turns:
 def started(program, mode):
     """A server in this mode, and the links of a load."""
     address = program.serve(GATEWAYS + APPLICATIONS) if mode == "serve" else program.run_on(PLACES)
-    links = lnsd.load.Links.to(address, GATEWAYS, APPLICATIONS)
+    links = bozintar.load.Links.to(address, GATEWAYS, APPLICATIONS)
     time.sleep(1)
     return links
 
@@ -86,8 +86,8 @@ def started(program, mode):
 def ended(run, program, links, mode):
     """The server ends, and nothing was dropped."""
     if mode == "serve":
-        for it in links.all():
-            it.end()
+        for link in links.all():
+            link.end()
         came = program.ended()
     else:
         came = program.stop()
@@ -100,7 +100,7 @@ def ended(run, program, links, mode):
 def counts_of(program, mode):
     """What `run` has counted of the disk."""
     status = program.status() if mode == "run" else {}
-    return Counter({it: int(status[it]) for it in ("commits", "syncs") if it in status})
+    return Counter({name: int(status[name]) for name in ("commits", "syncs") if name in status})
 
 
 def turn(run, mode, frames, turns, seconds):
@@ -110,7 +110,7 @@ def turn(run, mode, frames, turns, seconds):
         links = started(program, mode)
         pid, first = program.server.pid, counts_of(program, mode)
         before, times = tasks(pid), times_of(pid)
-        outcome = lnsd.load.played(links, frames, 0, count, run.given.rate)
+        outcome = bozintar.load.played(links, frames, 0, count, run.given.rate)
         time.sleep(0.3)
         user, kernel = times_of(pid)
         turns.add(before, tasks(pid))
@@ -132,15 +132,15 @@ def by_turns(run, frames):
         for mode in sorted(modes, reverse=number % 2 == 0):
             turn(run, mode, frames, modes[mode], run.given.seconds)
     found = run.figures["run"] = {mode: turns.figures() for mode, turns in modes.items()}
-    for mode, it in found.items():
-        told = f"{it['latency']['median_ms']} ms (99th {it['latency']['p99_ms']})"
-        run.tell(f"{mode}: beyond the window, median of {it['uplinks']:,}", told)
+    for mode, figures in found.items():
+        told = f"{figures['latency']['median_ms']} ms (99th {figures['latency']['p99_ms']})"
+        run.tell(f"{mode}: beyond the window, median of {figures['uplinks']:,}", told)
         run.tell(
             f"{mode}: processor time an uplink; in the kernel",
-            f"{it['processor_us']} us; {it['kernel_us']} us",
+            f"{figures['processor_us']} us; {figures['kernel_us']} us",
         )
-        run.tell(f"{mode}: of each thread, us", it["threads_us"])
-        run.tell(f"{mode}: how often each was taken off, an uplink", it["switches"])
+        run.tell(f"{mode}: of each thread, us", figures["threads_us"])
+        run.tell(f"{mode}: how often each was taken off, an uplink", figures["switches"])
     serve, of = found["serve"], found["run"]
     run.tell("run: commits and syncs an uplink", f"{of['commits']}, {of['syncs']}")
     for name in ("median_ms", "p99_ms"):
@@ -157,14 +157,16 @@ def straced(run, frames):
         links = started(program, "run")
         first = counts_of(program, "run")
         with counted(program.server.pid) as calls:
-            outcome = lnsd.load.played(links, frames, 0, count, run.given.rate)
+            outcome = bozintar.load.played(links, frames, 0, count, run.given.rate)
             time.sleep(0.3)
         many = counts_of(program, "run") - first
         ended(run, program, links, "run")
     if not calls:
         run.tell("system calls", "not counted: there is no strace")
         return
-    each = {it: round(number / count, 3) for it, number in calls.items() if number > count / 200}
+    each = {
+        call: round(number / count, 3) for call, number in calls.items() if number > count / 200
+    }
     found = {"calls": each, "commits": round(many["commits"] / count, 3)}
     found["uplinks_a_second"] = round(count / outcome.seconds, 1)
     run.figures["calls"] = found
@@ -179,7 +181,9 @@ def idle_links(run):
     """Links that say nothing."""
     with run.store(runs.bare()) as program:
         address = program.run_on(PLACES)
-        links: list[Link] = [Gateway(address, lnsd.load.gateway_eui(at)) for at in range(NAMED[0])]
+        links: list[Link] = [
+            Gateway(address, bozintar.load.gateway_eui(at)) for at in range(NAMED[0])
+        ]
         links += [Application(address, number) for number in range(NAMED[1])]
         time.sleep(2)
         linked = program.status()["links"]
@@ -191,8 +195,8 @@ def idle_links(run):
         name = f"{sum(NAMED)} links, {found['threads']} threads, {IDLE_SECONDS} s:"
         run.aim(f"{name} wake-ups", found["switches"], 0, "")
         run.aim(f"{name} system calls", found["system_calls"], 0, "")
-        for it in links:
-            it.close()
+        for link in links:
+            link.close()
         program.stop()
 
 

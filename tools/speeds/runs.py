@@ -3,8 +3,8 @@ the links of a load."""
 import json
 import os
 
-import lnsd.load
-import lnsd.store
+import bozintar.load
+import bozintar.store
 from commands import ROOT
 from bozintar.links import Ended, Silent
 from bozintar.processes import Failed
@@ -40,16 +40,16 @@ class Run:
 
     def store(self, records, version=2):
         """A program with a store of these records, of a version."""
-        it = Program(self.given.program, self.given.folder)
+        program = Program(self.given.program, self.given.folder)
         try:
-            came = it.format(slots=DEVICES)
+            came = program.format(slots=DEVICES)
             if came != (0, "", ""):
                 raise Failed(f"lnsd format: {came}")
-            lnsd.store.put(it.store, records, version=version)
+            bozintar.store.put(program.store, records, version=version)
         except BaseException:
-            it.clean()
+            program.clean()
             raise
-        return it
+        return program
 
     def keep(self):
         """Puts the figures into the file that they are for."""
@@ -128,8 +128,11 @@ def done(name, given, measure):
 def listed(run, program, count):
     """The list has each device's last counter, and as many decisions as frames."""
     lines = program.list()
-    sent = [count // DEVICES + (it < count % DEVICES) for it in range(DEVICES)]
-    due = [f"{it} {lnsd.load.dev_eui(it)} 1 1 {sent[it]} 0 0 {sent[it]}" for it in range(DEVICES)]
+    sent = [count // DEVICES + (device < count % DEVICES) for device in range(DEVICES)]
+    due = [
+        f"{device} {bozintar.load.dev_eui(device)} 1 1 {sent[device]} 0 0 {sent[device]}"
+        for device in range(DEVICES)
+    ]
     due.append(f"devices {DEVICES} seq {DEVICES + count}")
     differ = sum(map(str.__ne__, lines, due)) + abs(len(lines) - len(due))
     run.aim("the list afterwards: lines that differ", differ, 0, "")
@@ -137,9 +140,9 @@ def listed(run, program, count):
 
 def frames_of(run, rounds):
     """The frames of this many rounds of all devices, one copy each."""
-    return lnsd.load.made(DEVICES, rounds, GATEWAYS, 1, run.given.jobs)
+    return bozintar.load.made(DEVICES, rounds, GATEWAYS, 1, run.given.jobs)
 
 
 def bare(applications=APPLICATIONS):
     """Records of all devices, each in its session."""
-    return [lnsd.load.record(it, applications) for it in range(DEVICES)]
+    return [bozintar.load.record(device, applications) for device in range(DEVICES)]

@@ -16,7 +16,7 @@ import os
 import shutil
 import time
 
-import lnsd.load
+import bozintar.load
 from bozintar.links import Application
 from bozintar.processes import Failed
 from speeds import runs
@@ -29,8 +29,8 @@ FULL_RATE = 1000
 
 def ended(run, program, links, name):
     """All inputs end; how long the server takes to end then."""
-    for it in links.all():
-        it.end()
+    for link in links.all():
+        link.end()
     begun = time.monotonic()
     came = program.ended()
     took = round(1000 * (time.monotonic() - begun), 1)
@@ -49,7 +49,7 @@ def load(run, program, links, frames, first, count, rate):
     begun = seconds_of(pid)
     before = memory(pid)
     with Probe(run.given.folder) as probe:
-        outcome = lnsd.load.played(links, frames, first, count, rate)
+        outcome = bozintar.load.played(links, frames, first, count, rate)
         time.sleep(0.3)
     took = 1e6 * (seconds_of(pid) - begun) / count
     found = {
@@ -67,21 +67,23 @@ def load(run, program, links, frames, first, count, rate):
     run.tell(f"{name}: sent, in {outcome.seconds:.1f} s", outcome.sent)
     run.aim(f"{name}: lost", outcome.sent - len(outcome.waits), 0, "")
     run.aim(f"{name}: wrong lines", len(outcome.wrong), 0, "")
-    for it in outcome.wrong[:3]:
-        print(f"speed server: a line that shouldn't have come: {it}")
+    for line in outcome.wrong[:3]:
+        print(f"speed server: a line that shouldn't have come: {line}")
     return found
 
 
 def latency(run, found, rate, more, p99=None):
     """Compares a load's latency with two syncs that were made meanwhile and so much more."""
-    it, two = found["latency"], found["syncs"]["two"]
+    latency, two = found["latency"], found["syncs"]["two"]
     name = f"{rate} uplinks a second: beyond the window,"
     run.tell(f"{rate} uplinks a second: two syncs meanwhile, median", f"{two.get('median_ms')} ms")
-    run.aim(f"{name} median", it.get("median_ms"), round(two.get("median_ms", 0) + more, 3), "ms")
+    run.aim(
+        f"{name} median", latency.get("median_ms"), round(two.get("median_ms", 0) + more, 3), "ms"
+    )
     if p99:
-        run.aim(f"{name} 99th percentile", it.get("p99_ms"), p99, "ms")
+        run.aim(f"{name} 99th percentile", latency.get("p99_ms"), p99, "ms")
     else:
-        run.tell(f"{name} 99th percentile", f"{it.get('p99_ms')} ms")
+        run.tell(f"{name} 99th percentile", f"{latency.get('p99_ms')} ms")
 
 
 def uplinks(run):
@@ -94,7 +96,7 @@ def uplinks(run):
     run.tell("frames made in advance", f"{DEVICES * rounds} in {time.monotonic() - begun:.0f} s")
     with run.store(runs.bare()) as program:
         address = program.serve(GATEWAYS + APPLICATIONS)
-        links = lnsd.load.Links.to(address, GATEWAYS, APPLICATIONS)
+        links = bozintar.load.Links.to(address, GATEWAYS, APPLICATIONS)
         time.sleep(1)
         found = run.figures["idle"] = idle(program.server.pid, IDLE_SECONDS)
         run.aim(f"idle: switches of its threads in {IDLE_SECONDS} s", found["switches"], 0, "")
@@ -114,10 +116,10 @@ def uplinks(run):
 def first_answer(program):
     """Starts the server; how long until it takes a link, and until it answers a line, in ms."""
     begun = time.monotonic()
-    with Application(program.serve(1), 0) as it:
+    with Application(program.serve(1), 0) as application:
         taken = time.monotonic() - begun
-        it.asks("hello")
-        if it.hears() != "refused 51":
+        application.asks("hello")
+        if application.hears() != "refused 51":
             raise Failed("a line that is no request was answered otherwise")
         answered = time.monotonic() - begun
     program.ended()
@@ -129,7 +131,7 @@ def listed_full(program):
     begun = time.monotonic()
     lines = program.list()
     took = round(1000 * (time.monotonic() - begun), 1)
-    if lines[0] != f"0 {lnsd.load.dev_eui(0)} 2 1 0 0 16 0":
+    if lines[0] != f"0 {bozintar.load.dev_eui(0)} 2 1 0 0 16 0":
         raise Failed(f"the list begins with {lines[0]}")
     return took
 
@@ -152,7 +154,7 @@ def older(run, records, list_ms):
 
 def full(run):
     """Starting on full records, and what they take."""
-    records = [lnsd.load.record(it, APPLICATIONS, True) for it in range(DEVICES)]
+    records = [bozintar.load.record(device, APPLICATIONS, True) for device in range(DEVICES)]
     with run.store(records) as program:
         lists, starts = [], []
         for _ in range(STARTS):
@@ -161,8 +163,15 @@ def full(run):
         older(run, records, share(lists, 0.5))
         found = run.figures["full"] = {"list_ms": lists, "taken_and_answered_ms": starts}
         run.aim("full: lnsd list, median", share(lists, 0.5), 300, "ms")
-        run.aim("full: serve takes a link, median", share([it[0] for it in starts], 0.5), 300, "ms")
-        run.tell("full: serve answers a line, median", f"{share([it[1] for it in starts], 0.5)} ms")
+        run.aim(
+            "full: serve takes a link, median",
+            share([start[0] for start in starts], 0.5),
+            300,
+            "ms",
+        )
+        run.tell(
+            "full: serve answers a line, median", f"{share([start[1] for start in starts], 0.5)} ms"
+        )
         full_load(run, program, found)
 
 
@@ -170,17 +179,17 @@ def full_load(run, program, found):
     """One uplink of each full device, which is answered by an item."""
     frames = runs.frames_of(run, 1)
     address = program.serve(GATEWAYS + APPLICATIONS)
-    links = lnsd.load.Links.to(address, GATEWAYS, APPLICATIONS)
+    links = bozintar.load.Links.to(address, GATEWAYS, APPLICATIONS)
     time.sleep(0.5)
     found["memory_before"] = memory(program.server.pid)
-    outcome = lnsd.load.played(links, frames, 0, DEVICES, FULL_RATE)
+    outcome = bozintar.load.played(links, frames, 0, DEVICES, FULL_RATE)
     found["memory_after"] = memory(program.server.pid)
     found["latency"] = spread(outcome.waits)
-    wrong = [it for it in outcome.wrong if not it.startswith("lost ")]
+    wrong = [line for line in outcome.wrong if not line.startswith("lost ")]
     run.aim("full: uplinks lost", DEVICES - len(outcome.waits), 0, "")
     run.aim("full: wrong lines", len(wrong), 0, "")
     run.aim("full: memory, VmHWM", found["memory_after"]["VmHWM"], 64, "MiB")
-    sizes = [found[it]["VmRSS"] for it in ("memory_before", "memory_after")]
+    sizes = [found[name]["VmRSS"] for name in ("memory_before", "memory_after")]
     run.tell("full: memory, VmRSS before and after the uplinks", f"{sizes[0]}, {sizes[1]} MiB")
     told = f"{found['latency'].get('median_ms')} ms (99th {found['latency'].get('p99_ms')})"
     run.tell(f"full: beyond the window at {FULL_RATE} a second, median", told)
@@ -196,7 +205,7 @@ def measured(run):
     full(run)
     run.figures["syncs_after"] = syncs(folder)
     for name in ("syncs_before", "syncs_after"):
-        one, two = (run.figures[name][it]["median_ms"] for it in ("one", "two"))
+        one, two = (run.figures[name][many]["median_ms"] for many in ("one", "two"))
         run.tell(f"{name.replace('_', ' ')}: one, two, median", f"{one}, {two} ms")
 
 

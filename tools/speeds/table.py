@@ -5,7 +5,7 @@ BEGIN, END = "<!-- figures, by tools/speed page: {} -->", "<!-- end of these fig
 
 
 def rows_of(cells):
-    return ["| " + " | ".join(str(it) for it in row) + " |" for row in cells]
+    return ["| " + " | ".join(str(cell) for cell in row) + " |" for row in cells]
 
 
 def table(head, *cells):
@@ -30,11 +30,11 @@ def machine(of):
 def uplinks(found):
     """The loads of uplinks."""
     cells = []
-    for rate, it in sorted(found["loads"].items(), key=lambda pair: int(pair[0])):
-        lost = it["sent"] - it["came"]
-        told = f"{it['uplinks_a_second']:,.0f}", f"{it['sent']:,}", lost
-        cells.append((*told, *spread(it["latency"]), f"{it['processor_us_an_uplink']} µs"))
-        cells.append(("two syncs meanwhile", "", "", *spread(it["syncs"]["two"]), ""))
+    for rate, load in sorted(found["loads"].items(), key=lambda pair: int(pair[0])):
+        lost = load["sent"] - load["came"]
+        told = f"{load['uplinks_a_second']:,.0f}", f"{load['sent']:,}", lost
+        cells.append((*told, *spread(load["latency"]), f"{load['processor_us_an_uplink']} µs"))
+        cells.append(("two syncs meanwhile", "", "", *spread(load["syncs"]["two"]), ""))
     head = ("Uplinks a second", "sent", "lost", "median", "99th", "largest", "processor time each")
     for name in ("before", "after"):
         two = spread(found[f"syncs_{name}"]["two"])
@@ -45,7 +45,7 @@ def uplinks(found):
 def others(found):
     """What it takes besides."""
     idle, full = found["idle"], found["full"]
-    most = max(found["loads"].items(), key=lambda it: int(it[0]))[1]["memory_after"]
+    most = max(found["loads"].items(), key=lambda pair: int(pair[0]))[1]["memory_after"]
 
     def median(values):
         return sorted(values)[len(values) // 2]
@@ -77,12 +77,12 @@ def others(found):
 
 def each(of, names, digits=1):
     """Values of these names, parted."""
-    return "; ".join(f"{of.get(it, 0):.{digits}f}" for it in names)
+    return "; ".join(f"{of.get(name, 0):.{digits}f}" for name in names)
 
 
 def modes(found):
     """`run` beside `serve`."""
-    both = [found["run"][it] for it in ("serve", "run")]
+    both = [found["run"][mode] for mode in ("serve", "run")]
     rate = round(both[0]["uplinks_a_second"])
 
     def row(what, told):
@@ -90,16 +90,16 @@ def modes(found):
 
     return table(
         (f"{rate:,} uplinks a second, {both[0]['uplinks']:,} of each", "`serve`", "`run`"),
-        row("beyond the window: median; 99th", lambda it: "; ".join(spread(it["latency"])[:2])),
+        row("beyond the window: median; 99th", lambda of: "; ".join(spread(of["latency"])[:2])),
         row(
             "processor time an uplink, µs; in the kernel",
-            lambda it: each(it, ("processor_us", "kernel_us")),
+            lambda of: each(of, ("processor_us", "kernel_us")),
         ),
-        row("of readers; closer; flusher; senders", lambda it: each(it["threads_us"], ROLES)),
-        row("times these were taken off a processor", lambda it: each(it["switches"], ROLES, 2)),
+        row("of readers; closer; flusher; senders", lambda of: each(of["threads_us"], ROLES)),
+        row("times these were taken off a processor", lambda of: each(of["switches"], ROLES, 2)),
         row(
             "commits; syncs",
-            lambda it: each(it, ("commits", "syncs"), 2) if "commits" in it else "",
+            lambda of: each(of, ("commits", "syncs"), 2) if "commits" in of else "",
         ),
     )
 
@@ -114,7 +114,7 @@ def links(found):
         (f"{what}: times a thread woke; system calls", f"{idle['switches']}; {called}"),
         (
             f"memory after {first[0]:,} links that came; {settled[0]:,}; {last[0]:,}",
-            "; ".join(f"{it[1]:,} KiB" for it in (first, settled, last)),
+            "; ".join(f"{memory[1]:,} KiB" for memory in (first, settled, last)),
         ),
         ("descriptors; threads, then", f"{first[2]}, {last[2]}; {first[3]}, {last[3]}"),
         ("processor time of a link that comes and ends", f"{anew['processor_us']} µs"),
@@ -125,28 +125,30 @@ def links(found):
     return table(("What, of `run`", "Figure"), *cells)
 
 
-def asked(it):
+def asked(found):
     """A row's figures of one server, or none."""
-    if not it:
+    if not found:
         return ("", "", "")
-    return f"{it['commits_a_second']:,}", "; ".join(spread(it)[:2]), it["processor_us"]
+    return f"{found['commits_a_second']:,}", "; ".join(spread(found)[:2]), found["processor_us"]
 
 
 def commits(found):
     """Requests that wait for their answers, of lnsd beside the databases."""
     of = {
-        name: {(it["clients"], it["window"]): it for it in found["requests"][name]}
+        name: {(row["clients"], row["window"]): row for row in found["requests"][name]}
         for name in ("lnsd", "postgresql")
     }
     version = found.get("postgresql", {}).get("server_version", "").split(" ")[0]
     head = ("Clients, requests of each", "lnsd a second", "median; 99th", "µs each")
     cells = []
-    for key in sorted({**of["lnsd"], **of["postgresql"]}, key=lambda it: it[0] * it[1]):
+    for key in sorted({**of["lnsd"], **of["postgresql"]}, key=lambda key: key[0] * key[1]):
         rows = (asked(of[name].get(key)) for name in ("lnsd", "postgresql"))
-        cells.append((f"{key[0]}, {key[1]}", *(it for row in rows for it in row)))
-    it = found["sqlite"]
-    name = f"1, 1: SQLite {it['version']}"
-    cells.append((name, "", "", "", f"{it['commits_a_second']:,}", "; ".join(spread(it)[:2]), ""))
+        cells.append((f"{key[0]}, {key[1]}", *(cell for row in rows for cell in row)))
+    sqlite = found["sqlite"]
+    name = f"1, 1: SQLite {sqlite['version']}"
+    cells.append(
+        (name, "", "", "", f"{sqlite['commits_a_second']:,}", "; ".join(spread(sqlite)[:2]), "")
+    )
     return table((*head, f"PostgreSQL {version} a second", "median; 99th", "µs each"), *cells)
 
 

@@ -1,6 +1,6 @@
 //! Tests of the server's words, of the words of its faults, and of the lines that it prints. They
 //! are above `gateway_server`, so that it is proved once. Whole runs of the server are played on
-//! the built program, by `tools/lnsd-hostile` and `examples/server/walk`.
+//! the built program, by `tests/lnsd/hostile` and `examples/server/walk`.
 #![tactic(auto)]
 
 #[cfg(test)]

@@ -1,0 +1,1 @@
+"""Trials of the server lnsd, on its sockets and its file."""

@@ -1,0 +1,1 @@
+"""The power fails at each moment of a short life of the server."""

@@ -1,0 +1,1 @@
+"""Random loads beside a plain model."""
