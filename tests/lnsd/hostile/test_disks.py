@@ -100,6 +100,7 @@ def test_restored_store_is_synced(server: Program, with_disk: Environment) -> No
     assert "wfd" in logged(server, with_disk, "restore", server.store, f"{server.folder}/new")
 
 
+@pytest.mark.timed
 @pytest.mark.usefixtures("proved")
 def test_failing_disk_and_application_that_does_not_read(
     new_server: NewServer, with_disk: Environment

@@ -134,6 +134,7 @@ def test_nonsense(empty: Program, order: bytes) -> None:
     assert_stopped(empty)
 
 
+@pytest.mark.timed
 def test_silent_operators(empty: Program) -> None:
     """Operators who say nothing are given up, and hold up nobody."""
     silent = [operator(empty) for _ in range(7)]

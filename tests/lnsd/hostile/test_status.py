@@ -57,6 +57,7 @@ def slow_syncs(with_disk: Environment) -> dict[str, str]:
     return with_disk(SLOW_SYNCS=1_000_000, SLOW_MS=int(1000 * SLOW))
 
 
+@pytest.mark.timed
 def test_status(server: Program, slow_syncs: dict[str, str]) -> None:
     """Three decisions, each committed alone, are in the status, and two syncs each, or one or two
     more."""
