@@ -1,0 +1,631 @@
+/* The wake-ups of lnsd's threads. README.md says what is modelled, and what isn't.
+ *
+ * A line `crate/file: Type::function` names the code of the steps after it. A step is one action on
+ * what threads share, and all interleavings of these steps are searched. What a thread does under
+ * a lock is one action, except for a greeting that takes a name over.
+ *
+ *   -DRUN        models `lnsd run`, where an application's link ends or is taken over. Without it,
+ *                `lnsd serve` is modelled.
+ *   -DENDS       The life ends, and each thread has to end. Without it, links stay.
+ *   -DFAULT_..   plants a fault.
+ */
+
+/* The numbers of open windows whose moment is to come, and of those whose moment has come. */
+byte later, due;
+
+/* The closer saw a window; the moment of the oldest one has come. */
+bit is_timed, is_due;
+
+/* Decisions wait in the core; effects wait in the application's ring. Whoever takes some takes all,
+ * so their number makes no difference. */
+bit untaken, ring;
+
+/* The signals, those of server_links. A Parker of std is a token, which `unpark` sets, and `park`
+ * waits for and takes. */
+byte open_inputs = 3;
+bit closer_idle, frames_decided, ticked, opened_bell, decided_bell;
+
+/* The flusher has ended the rings. */
+bit is_finished;
+
+/* The number of threads that have ended. Those of senders of `run` are counted by their places. */
+byte ended;
+
+#ifdef RUN
+/* The life was asked to end, no link comes in any more, and the gateways' inputs are ended. */
+bit ending, is_door_shut, gateways_shut;
+#endif
+
+/* Time passes. */
+active proctype time() {
+end_time:
+    do
+    :: atomic { later -> later--; due++; is_due = is_timed }
+    od
+}
+
+/* session_core/closing: Core::close_oldest
+ * A decision is made, or the frame is refused. */
+inline close_oldest() {
+    due--;
+    if
+    :: untaken = true; is_decided = true
+    :: true
+    fi
+}
+
+/* session_core/closing: Core::begin
+ * session_core/closing: Core::close_due
+ * Closes windows that are due. The moment was read before the lock was taken, so more of them may
+ * be due by now. */
+inline begin() {
+    do
+    :: due -> close_oldest()
+    :: break
+    od
+}
+
+/* server_links/signals: Signals::end_input */
+inline end_input() {
+#ifdef FAULT_BELL_BEFORE_END_OF_INPUT
+    atomic { if :: open_inputs == 1 -> opened_bell = true :: else fi }
+    open_inputs--
+#else
+    if
+    :: atomic { open_inputs == 1 -> open_inputs = 0 }
+       opened_bell = true
+    :: atomic { open_inputs > 1 -> open_inputs-- }
+    fi
+#endif
+}
+
+/* ---- A gateway's worker ---- */
+
+#define NEXT if :: copies -> goto hear_copy :: else -> goto read fi
+
+proctype gateway_worker(byte copies) {
+    bit is_decided;
+    atomic { NEXT }
+hear_copy:
+#ifdef FAULT_OPENED_BEFORE_HEARD
+    if
+    :: atomic { closer_idle -> closer_idle = false }
+       opened_bell = true
+    :: else
+    fi;
+#endif
+    /* link_workers/reading: Worker::hear_copy
+     * link_workers/observing: LiveServer::hear
+     * session_core/shared: Shared::hear
+     * session_core/events: Core::hear
+     * session_core/closing: Core::listen
+     * A copy opens a window, or joins one or is refused. */
+    atomic {
+        copies--;
+        begin();
+        if :: later++ :: true fi;
+        if :: is_decided -> is_decided = false :: else -> goto tell_opened fi
+    }
+#ifdef FAULT_OPENED_BEFORE_FRAMES
+    if
+    :: atomic { closer_idle -> closer_idle = false }
+       opened_bell = true
+    :: else
+    fi;
+    atomic { frames_decided = true; NEXT }
+#endif
+    /* server_links/signals: Signals::tell_frames */
+    frames_decided = true;
+tell_opened:
+    /* server_links/signals: Signals::tell_opened */
+#ifdef FAULT_OPENED_BEFORE_HEARD
+    atomic { NEXT }
+#endif
+    atomic { if :: closer_idle -> closer_idle = false :: else -> NEXT fi }
+    atomic { opened_bell = true; NEXT }
+read:
+#ifdef ENDS
+#ifdef RUN
+    /* link_workers/reading: Worker::read
+     * Waits until the operator ends the input. */
+    gateways_shut;
+#endif
+    end_input();
+    ended++;
+#endif
+end_over:
+    false
+}
+
+/* ---- The closer ---- */
+
+active proctype closer() {
+    bit is_decided, is_last;
+    /* link_workers/closing: Closer::run */
+turn:
+#ifdef ENDS
+    /* server_links/signals: Signals::is_over */
+    if
+    :: open_inputs == 0 -> goto last
+    :: else
+    fi;
+#endif
+    /* link_workers/closing: Closer::wait_for_window
+     * server_links/signals: Signals::set_idle
+     * session_core/shared: Shared::next_due
+     * server_links/signals: Signals::has_frames */
+#ifndef FAULT_IDLE_AFTER_LOOK
+    closer_idle = true;
+#endif
+    atomic {
+        is_timed = (due || later);
+        is_due = (due > 0);
+        if :: is_timed -> goto clear :: else fi
+    }
+#ifdef FAULT_IDLE_AFTER_LOOK
+    closer_idle = true;
+#endif
+#ifndef FAULT_NO_LOOK_FOR_FRAMES
+    if
+    :: frames_decided -> goto clear
+    :: else
+    fi;
+#endif
+end_park:
+    atomic { opened_bell -> opened_bell = false }
+clear:
+    /* server_links/signals: Signals::clear_idle */
+    atomic { closer_idle = false; if :: is_timed :: else -> goto tick fi }
+    /* server_links/moments: Monotonic::wait
+     * If the moment has come, it may wait for the least time between two turns, or not at all. */
+    if
+    :: is_due -> goto tick
+    :: atomic { is_due || opened_bell }
+    fi;
+    opened_bell = false;
+tick:
+    /* link_workers/closing: Closer::tick
+     * link_workers/observing: LiveServer::tick
+     * session_core/shared: Shared::tick
+     * session_core/events: Core::tick */
+    atomic {
+        is_timed = false;
+        is_due = false;
+        do
+        :: due -> close_oldest()
+        :: else -> break
+        od;
+        if :: is_decided -> is_decided = false :: else -> goto tell fi
+    }
+    frames_decided = true;
+tell:
+    /* server_links/signals: Signals::ring_for_frames */
+    atomic {
+        if
+        :: frames_decided -> frames_decided = false
+        :: else -> if :: is_last -> goto tick_told :: else -> goto turn fi
+        fi
+    }
+    atomic { decided_bell = true; if :: is_last -> goto tick_told :: else -> goto turn fi }
+last:
+#ifdef FAULT_TICKED_BEFORE_CLOSING
+    ticked = true;
+    decided_bell = true;
+#endif
+    /* link_workers/closing: Closer::close_all
+     * A tick after the last moment closes all windows. */
+    atomic { due = due + later; later = 0; is_last = true; goto tick }
+tick_told:
+    /* server_links/signals: Signals::tell_ticked */
+#ifndef FAULT_TICKED_BEFORE_CLOSING
+    ticked = true;
+    decided_bell = true;
+#endif
+    ended++;
+end_over:
+    false
+}
+
+/* ---- The flusher ---- */
+
+#ifdef RUN
+#define NOBODY 2
+/* Of the two places for links of the application: the place whose link has the name; and for each
+ * place, the bell of its sender, and what others say to its link. */
+byte holder = 0;
+bit bell[2], over[2], taken[2], shut[2], shown[2] = { true, false };
+/* A greeting has locked the directory. */
+bit is_taking_over;
+#else
+/* The peer's name is set; the directory has it; the bell of the sender. */
+bit is_named, is_greeted, bell;
+#endif
+
+#define CONTINUE if :: following -> following = false; goto follow :: else -> goto chain fi
+
+active proctype flusher() {
+    bit following, is_ticked;
+#ifdef RUN
+    byte marked;
+#endif
+chain:
+    /* flusher/serving: serve
+     * flusher/chaining: chain
+     * flusher/chaining: take
+     * flusher/drawn: Drawn::next
+     * session_core/shared: Shared::take */
+    atomic { if :: untaken -> untaken = false :: else -> goto is_done fi }
+follow:
+    /* flusher/chaining: begin_following
+     * It takes nothing more if the chain or the journal has no more room. */
+    atomic { if :: following = untaken; untaken = false :: true fi }
+#ifdef FAULT_BELL_BEFORE_RING
+    bell = true;
+#endif
+    /* flusher/chaining: release
+     * link_server/flushing: let_out
+     * server_links/routing: route
+     * link_server/flushing: mark_links
+     * What is put into the ring under the lock of the directory, and whose bell is to be rung. */
+#ifdef RUN
+    atomic {
+        !is_taking_over;
+        ring = true;
+        marked = holder;
+        if :: marked == NOBODY -> CONTINUE :: else fi
+    }
+    /* link_server/flushing: ring_links */
+    atomic { bell[marked] = true; marked = 0; CONTINUE }
+#else
+    atomic { if :: is_greeted -> ring = true :: else -> CONTINUE fi }
+#ifdef FAULT_BELL_BEFORE_RING
+    atomic { CONTINUE }
+#endif
+    /* link_server/flushing: ring_links */
+    atomic { bell = true; CONTINUE }
+#endif
+is_done:
+    /* link_server/flushing: is_done */
+    if
+    :: is_ticked -> goto finish
+    :: atomic { !is_ticked && ticked -> goto see }
+    :: else
+    fi;
+    /* server_links/signals: Signals::wait_for_decisions */
+end_park:
+    atomic { decided_bell -> decided_bell = false }
+see:
+    /* server_links/signals: Signals::is_ticked */
+    atomic { is_ticked = ticked }
+#ifdef FAULT_END_AT_TICK
+    if :: is_ticked -> goto finish :: else fi;
+#endif
+    goto chain;
+finish:
+    /* link_server/flushing: finish */
+    is_finished = true;
+    /* link_workers/server: LiveServer::ring_senders */
+#ifdef RUN
+    bell[0] = true;
+    bell[1] = true;
+#else
+    bell = true;
+#endif
+    ended++;
+end_over:
+    false
+}
+
+#ifndef RUN
+/* ---- An application of `serve`: a worker and a sender ---- */
+
+bit refusals;
+
+active proctype application_worker() {
+    bit is_decided, is_refused;
+#ifdef ENDS
+    /* It has greeted before. */
+    atomic { is_named = true; is_greeted = true }
+#else
+    /* link_workers/reading: Worker::greet
+     * server_links/link: Link::set_name */
+#ifdef FAULT_NAME_AFTER_GREETING
+    is_greeted = true;
+    is_named = true;
+#else
+    is_named = true;
+    is_greeted = true;
+#endif
+#endif
+#ifdef FAULT_RING_BEFORE_ASKING
+    decided_bell = true;
+#endif
+    /* link_workers/reading: Worker::ask
+     * link_workers/observing: LiveServer::ask
+     * session_core/shared: Shared::ask
+     * session_core/events: Core::decide */
+    atomic {
+        begin();
+        if
+        :: untaken = true; is_decided = true
+#ifndef ENDS
+        :: is_refused = true
+#endif
+        fi;
+        if :: is_decided -> is_decided = false :: else -> goto refused fi
+    }
+#ifndef FAULT_RING_BEFORE_ASKING
+    /* server_links/signals: Signals::ring_flusher */
+    decided_bell = true;
+#endif
+    atomic { if :: is_refused :: else -> goto read fi }
+refused:
+    /* link_workers/reading: Worker::tell_asker */
+#ifdef FAULT_BELL_BEFORE_REFUSAL
+    bell = true;
+    refusals = true;
+#else
+    refusals = true;
+    bell = true;
+#endif
+    atomic { is_refused = false }
+read:
+#ifdef ENDS
+    end_input();
+    ended++;
+#endif
+end_over:
+    false
+}
+
+/* server_links/writing: Sender::run */
+active proctype application_sender() {
+    bit is_last;
+look:
+#if defined(ENDS) && !defined(FAULT_LAST_AFTER_LOOK)
+    /* server_links/writing: Sender::is_last
+     * outbox/ends: Inlet::is_finished */
+    atomic { is_last = is_finished }
+#endif
+    /* server_links/writing: Sender::send_some
+     * server_links/writing: Sender::gather_refusals
+     * server_links/writing: Sender::gather_effects
+     * server_links/link: Link::name
+     * server_links/gathering: gather */
+    atomic {
+        if
+        :: refusals || (is_named && ring) ->
+            refusals = false;
+            if :: is_named -> ring = false :: else fi;
+            is_last = false;
+            goto look
+        :: else
+        fi;
+#ifndef FAULT_LAST_AFTER_LOOK
+        if :: is_last -> goto last :: else fi
+#endif
+    }
+#ifdef FAULT_LAST_AFTER_LOOK
+    atomic { if :: is_finished -> goto last :: else fi }
+#endif
+end_park:
+    atomic { bell -> bell = false; goto look }
+last:
+    ended++;
+end_over:
+    false
+}
+
+#define THREADS 6
+#define IS_NOTHING_LEFT (!later && !due && !untaken && !ring && !refusals)
+
+#else
+/* ---- An application of `run`: two places, each with a worker, and a sender for each link ---- */
+
+/* The end of the application's ring from which its lines come is there for a sender. */
+bit has_lines;
+/* A place's sender runs. */
+bit is_sending[2] = { true, false };
+
+/* The first place has a link, which may end by itself. The second place gets a link, which takes
+ * the name over. */
+proctype place_worker(bit place) {
+    bit has_had_link = !place, will_end, has_ended;
+    byte older = NOBODY;
+    atomic {
+        if
+        :: place -> goto accept
+        :: else -> if :: will_end = true :: true fi
+        fi
+    }
+read:
+    /* link_workers/reading: Worker::read */
+end_read:
+    atomic { shut[place] || will_end }
+    /* link_workers/hosting: Worker::end_link */
+#ifdef ENDS
+    if
+    :: ending ->
+        end_input();
+        atomic { has_ended = true; goto join }
+    :: else
+    fi;
+#endif
+    /* directory/names: Directory::leave */
+    atomic { !is_taking_over; if :: holder == place -> holder = NOBODY :: else fi }
+    /* server_links/link: Link::set_over */
+#ifdef FAULT_OVER_AFTER_BELL
+    bell[place] = true;
+    over[place] = true;
+#else
+    over[place] = true;
+    bell[place] = true;
+#endif
+join:
+    /* link_workers/hosting: Host::converse
+     * Its scope joins the sender. */
+end_join:
+    !is_sending[place];
+hide:
+    /* server_links/link: Link::hide */
+    atomic { shown[place] = false; shut[place] = false; will_end = false }
+accept:
+    /* link_workers/hosting: Host::run
+     * link_workers/server: LiveServer::accept */
+end_accept:
+    atomic {
+        if
+        :: !has_had_link -> has_had_link = true
+        :: is_door_shut -> goto no_more
+        fi
+    }
+#ifdef ENDS
+    /* server_links/signals: Signals::is_ending */
+    if
+    :: ending -> goto no_more
+    :: else
+    fi;
+#endif
+    /* link_workers/hosting: Host::serve
+     * server_links/link: Link::show */
+#ifndef FAULT_SHOWN_AFTER_LOOK
+    shown[place] = true;
+#endif
+#ifdef ENDS
+    if
+    :: ending -> goto hide
+    :: else
+    fi;
+#endif
+#ifdef FAULT_SHOWN_AFTER_LOOK
+    shown[place] = true;
+#endif
+    /* link_workers/hosting: Host::welcome
+     * link_workers/hosting: Worker::take_over
+     * directory/names: Directory::take_over */
+    atomic {
+        !is_taking_over;
+        older = holder;
+        holder = place;
+        if :: older == NOBODY -> goto start :: else -> is_taking_over = true fi
+    }
+    /* server_links/link: Link::take */
+    taken[older] = true;
+    /* server_links/link: Link::close
+     * server_links/link: Link::shut */
+    atomic { if :: shown[older] -> shut[older] = true :: else fi }
+    atomic { bell[older] = true; is_taking_over = false; older = NOBODY }
+start:
+    /* link_workers/hosting: hold
+     * link_workers/hosting: start_host_sender */
+    atomic { is_sending[place] = true; goto read }
+no_more:
+#ifdef ENDS
+    if
+    :: has_ended
+    :: else -> end_input()
+    fi;
+    ended++;
+#endif
+end_over:
+    false
+}
+
+/* server_links/writing: HostSender::run */
+proctype place_sender(bit place) {
+    bit is_last;
+    atomic { if :: !place -> goto look :: else fi }
+idle:
+end_idle:
+    is_sending[place];
+    /* server_links/writing: HostSender::send_lines
+     * server_links/writing: HostSender::wait_for */
+wait_for:
+    atomic { if :: has_lines -> has_lines = false; goto look :: else fi }
+    atomic { if :: over[place] -> goto gone :: else fi }
+    atomic { if :: taken[place] -> goto gone :: else fi }
+end_wait:
+    atomic { bell[place] -> bell[place] = false; goto wait_for }
+look:
+    /* server_links/writing: HostSender::send
+     * server_links/writing: Sender::run
+     * server_links/writing: Sender::is_given_up */
+    atomic { if :: taken[place] -> goto give_back :: else fi }
+    /* server_links/writing: Sender::is_last */
+    atomic { is_last = over[place] || is_finished }
+    /* server_links/writing: Sender::send_some */
+    atomic {
+        if :: ring -> ring = false; is_last = false; goto look :: else fi;
+        if :: is_last -> is_last = false; goto give_back :: else fi
+    }
+end_park:
+    atomic { bell[place] -> bell[place] = false; goto look }
+give_back:
+    /* server_links/writing: HostSender::send_lines */
+#ifdef FAULT_LINES_AFTER_BELLS
+    bell[0] = true;
+    bell[1] = true;
+    has_lines = true;
+#else
+    has_lines = true;
+    bell[0] = true;
+    bell[1] = true;
+#endif
+gone:
+    atomic { is_sending[place] = false; goto idle }
+}
+
+#ifdef ENDS
+/* link_workers/server: LiveServer::end */
+active proctype operator() {
+    /* server_links/signals: Signals::set_ending */
+    ending = true;
+    /* link_workers/server: LiveServer::shut_door */
+    is_door_shut = true;
+    /* server_links/link: Link::close_input */
+    gateways_shut = true;
+    atomic { if :: shown[0] -> shut[0] = true :: else fi }
+    atomic { if :: shown[1] -> shut[1] = true :: else fi }
+end_over:
+    false
+}
+#endif
+
+#define THREADS 5
+#define IS_NOTHING_LEFT (!later && !due && !untaken && (holder == NOBODY || !ring))
+
+#endif
+
+/* When all threads sleep, nothing is left; and each thread has ended if the life ends. */
+active proctype watcher() {
+    timeout;
+    assert(IS_NOTHING_LEFT);
+#ifdef ENDS
+    assert(ended == THREADS)
+#endif
+}
+
+init {
+    atomic {
+#if defined(RUN) && defined(ENDS)
+        /* A request was decided before, and no copy comes. */
+        untaken = true;
+        decided_bell = true;
+        run gateway_worker(0);
+#else
+        run gateway_worker(1);
+#endif
+#ifdef RUN
+        run place_worker(0);
+        run place_worker(1);
+        run place_sender(0);
+        run place_sender(1)
+#else
+#ifdef ENDS
+        run gateway_worker(0)
+#else
+        run gateway_worker(1)
+#endif
+#endif
+    }
+}
