@@ -321,6 +321,8 @@ end_over:
 
 bit refusals;
 
+#define MAY_ASK if :: goto read :: true fi
+
 active proctype application_worker() {
     bit is_decided, is_refused;
 #ifdef ENDS
@@ -331,10 +333,10 @@ active proctype application_worker() {
      * server_links/link: Link::set_name */
 #ifdef FAULT_NAME_AFTER_GREETING
     is_greeted = true;
-    is_named = true;
+    atomic { is_named = true; MAY_ASK }
 #else
     is_named = true;
-    is_greeted = true;
+    atomic { is_greeted = true; MAY_ASK }
 #endif
 #endif
 #ifdef FAULT_RING_BEFORE_ASKING
@@ -434,6 +436,9 @@ proctype place_worker(bit place) {
     byte older = NOBODY;
     atomic {
         if
+#ifdef ENDS
+        :: !place -> goto accept
+#endif
         :: place -> goto accept
         :: else -> if :: will_end = true :: true fi
         fi
@@ -534,7 +539,9 @@ end_over:
 /* server_links/writing: HostSender::run */
 proctype place_sender(bit place) {
     bit is_last;
+#ifndef ENDS
     atomic { if :: !place -> goto look :: else fi }
+#endif
 idle:
 end_idle:
     is_sending[place];
@@ -611,6 +618,11 @@ init {
         /* A request was decided before, and no copy comes. */
         untaken = true;
         decided_bell = true;
+        /* The first place has no link, so the second one's link takes nothing over. */
+        holder = NOBODY;
+        has_lines = true;
+        is_sending[0] = false;
+        shown[0] = false;
         run gateway_worker(0);
 #else
         run gateway_worker(1);
