@@ -18,7 +18,7 @@ from .pairs import HEARD, OWNER, end_all, linked, records
 
 # the rounds of all servers together, and the number of servers, which run beside each other; and
 # those of an unproved program, which takes long for each uplink
-ROUNDS, UNPROVED = (1000, 16), (40, 2)
+ROUNDS, UNPROVED = (1000, 8), (40, 2)
 # the most uplinks of a round, each of a device of its own
 MOST = 3
 # how long a window gathers copies, and the most that may pass after it, in seconds
