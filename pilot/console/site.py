@@ -1,5 +1,6 @@
 """The console's web site: its pages, and its forms."""
 
+import re
 import secrets
 import time
 import traceback
@@ -26,6 +27,7 @@ HERE = Path(__file__).resolve().parent
 KINDS = {"css": "text/css", "js": "text/javascript", "svg": "image/svg+xml"}
 # a page's version is in the address, so that a browser may keep these
 STATIC = "/static/{name:(?:console\\.css|console\\.js|icon\\.svg)}"
+EUI = re.compile(r"\b[0-9A-F]{16}\b")
 DEVICE = "/devices/{eui:[0-9A-Fa-f]{16}}"
 MOST_OUTCOMES, MOST_SHOWN = 100, 30
 OF_DEVICE = EVENTS.replace("FROM events", "FROM events WHERE of = ?")
@@ -71,7 +73,12 @@ class Site:
             trim_blocks=True,
             lstrip_blocks=True,
         )
-        made.filters |= {"ago": text.ago, "clock": text.clock, "duration": text.duration}
+        made.filters |= {
+            "ago": text.ago,
+            "clock": text.clock,
+            "duration": text.duration,
+            "named": self.named,
+        }
         made.globals |= {
             "plural": text.plural,
             "refusal": refusal,
@@ -84,6 +91,10 @@ class Site:
             "network": self.network,
         }
         return made
+
+    def named(self, words: str) -> str:
+        """A text with names in place of EUIs."""
+        return EUI.sub(lambda found: self.network.name(found[0]), words)
 
     def application(self) -> web.Application:
         """All addresses."""
@@ -132,6 +143,8 @@ class Site:
             response = self.message(request, 500, "The console has a fault. See its log.")
         for name, value in HEADERS.items():
             response.headers.setdefault(name, value)
+        if response.status >= 400 and request.method == "POST":
+            response.force_close()  # the rest of a form that is refused isn't read
         return response
 
     def message(self, request: web.Request, status: int, words: str) -> web.Response:

@@ -101,7 +101,7 @@ class Page:
         bare = re.sub(r"<(script|style)\b.*?</\1>|<[^>]*>", " ", self.markup, flags=re.S)
         for name, sign in (("&lt;", "<"), ("&gt;", ">"), ("&#34;", '"'), ("&#39;", "'")):
             bare = bare.replace(name, sign)
-        return re.sub(r"\s+", " ", bare.replace("&amp;", "&")).replace(" ,", ",")
+        return re.sub(r"\s+", " ", bare.replace("&amp;", "&")).replace(" ,", ",").replace(" :", ":")
 
     @property
     def token(self) -> str:
