@@ -20,6 +20,8 @@ PAUSE = 1.0
 COPIES = re.compile(
     r'pilot_gateways_[a-z]+_gateway_copies_total\{gateway="([0-9A-F]{16})"\} ([0-9.e+]{1,20})'
 )
+# in a folder of all, for example node_exporter's, or in one of each bridge
+COUNTS_FILES = ("gateways-*.prom", "*/gateways-*.prom")
 MOST_COUNTS = 100_000
 
 
@@ -116,7 +118,8 @@ def copies_in(folder: str) -> dict[str, int]:
     """The copies of each gateway, as the bridges have counted them. A file that can't be read now
     is read the next time."""
     found: dict[str, int] = {}
-    for file in Path(folder).glob("**/gateways-*.prom"):
+    files = (file for pattern in COUNTS_FILES for file in Path(folder).glob(pattern))
+    for file in files:
         try:
             with open(file, encoding="ascii") as text:
                 pairs = COPIES.findall(text.read(MOST_COUNTS))

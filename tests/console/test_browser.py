@@ -160,7 +160,8 @@ def test_script_as_name(network: Whole, browser: Browser) -> None:
 
     browser.show(f"/devices/{NEVER}")
     browser.tabs_to("main [name=name]")
-    browser.types(Keys.CONTROL + "a", Keys.NULL, EVIL[:60], Keys.ENTER)
+    browser.asks("document.activeElement.select()")
+    browser.types(EVIL[:60], Keys.ENTER)
     browser.reads("Saved.")
     browser.faults()
     for path in ("/", "/devices", f"/devices/{NEVER}", "/refused", "/add"):
@@ -203,6 +204,7 @@ def test_theme(browser: Browser) -> None:
 
 def test_without_scripts(browser: Browser) -> None:
     """All pages can be read, and forms can be sent, without scripts."""
+    browser.size(1400)
     browser.scripts(False)
     try:
         for path, text in PAGES.items():

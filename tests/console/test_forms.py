@@ -230,7 +230,7 @@ def test_wrong_lines(console: Console, form: dict, why: str) -> None:
 
 
 def test_too_large(console: Console) -> None:
-    """A form that is too large is refused, whatever it has."""
+    """A form that is too large is refused before all of it is read."""
     token = console.get("/add").token
     large = {"token": token, "application": "3", "lines": "x" * 500_000}
     assert console.post("/add", large).status == 413
