@@ -59,7 +59,7 @@ def take_up(network: Network, device: Device, said: dict) -> None:
         device.session, device.last_up = session, counter
     device.add(uplink)
     device.update()
-    add_best(network, uplink)
+    network.gateway(uplink.gateway).add_best(uplink)
     how = (rate, uplink.snr, uplink.rssi, uplink.gateway, hz, copies, size)
     network.kept.add(history.UPLINK, device.eui, session, counter, uplink.came, port, *how)
     counts = (known.first, known.last, known.count)
@@ -77,15 +77,6 @@ def uplink_of(said: dict, rate: int) -> Uplink:
         raise Wrong("gatewayId is no EUI")
     snr = float(fields.number(best, "snr", *fields.SNR))
     return Uplink(time.time(), gateway, snr, fields.whole(best, "rssi", -200, 50), rate)
-
-
-def add_best(network: Network, uplink: Uplink) -> None:
-    """A gateway heard a reading best, and so it has a link."""
-    gateway = network.gateway(uplink.gateway)
-    gateway.best += 1
-    gateway.snr_sum += uplink.snr
-    gateway.last, gateway.is_linked = uplink.came, True
-    gateway.minute(uplink.came).best += 1
 
 
 def take_status(network: Network, device: Device, said: dict) -> None:

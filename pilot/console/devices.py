@@ -150,6 +150,15 @@ class GatewayMinute:
 
 
 @dataclass
+class GatewayHour:
+    """The readings that a gateway heard best in an hour, and when the last of them came."""
+
+    best: int = 0
+    snr_sum: float = 0.0
+    last: float = 0.0
+
+
+@dataclass
 class Gateway:
     """A gateway."""
 
@@ -159,15 +168,28 @@ class Gateway:
     last: float = 0.0
     # what its bridge has counted; None without the bridge's counts
     copies: int | None = None
-    # how many readings it heard best, and the sum of their SNR
-    best: int = 0
-    snr_sum: float = 0.0
     minutes: dict[int, GatewayMinute] = field(default_factory=dict)
+    hours: dict[int, GatewayHour] = field(default_factory=dict)
+    # whether the present hour has changed since it was saved
+    is_changed: bool = False
+
+    @property
+    def best(self) -> int:
+        """How many readings it heard best in the last days."""
+        return sum(hour.best for hour in self.hours.values())
 
     @property
     def snr(self) -> float | None:
-        """The mean SNR of the readings that it heard best."""
-        return self.snr_sum / self.best if self.best else None
+        """The mean SNR of these."""
+        snr_sum = sum(hour.snr_sum for hour in self.hours.values())
+        return snr_sum / self.best if self.best else None
+
+    def add_best(self, uplink: Uplink) -> None:
+        """It heard a reading best, and so it has a link."""
+        hour = self.hours.setdefault(int(uplink.came // 3600), GatewayHour())
+        hour.best, hour.snr_sum, hour.last = hour.best + 1, hour.snr_sum + uplink.snr, uplink.came
+        self.last, self.is_linked, self.is_changed = uplink.came, True, True
+        self.minute(uplink.came).best += 1
 
     def minute(self, at: float) -> GatewayMinute:
         """The counts of a moment's minute."""

@@ -23,6 +23,8 @@ CREATE TABLE IF NOT EXISTS events (number INTEGER PRIMARY KEY, came REAL, kind T
 CREATE INDEX IF NOT EXISTS events_of ON events (of, number);
 CREATE TABLE IF NOT EXISTS minutes (minute INTEGER PRIMARY KEY, uplinks INTEGER, missing INTEGER,
     refused INTEGER, joins INTEGER, dropped INTEGER, sync_us INTEGER);
+CREATE TABLE IF NOT EXISTS gateway_hours (gateway TEXT, hour INTEGER, best INTEGER, snr_sum REAL,
+    last REAL, PRIMARY KEY (gateway, hour)) WITHOUT ROWID;
 CREATE TABLE IF NOT EXISTS names (eui TEXT PRIMARY KEY, name TEXT);
 """
 UPLINK = "INSERT OR IGNORE INTO uplinks VALUES (?, ?, ?, ?, ?, ?, ?, ?, ?, ?, ?, ?)"
@@ -30,6 +32,7 @@ SESSION = "INSERT OR REPLACE INTO sessions VALUES (?, ?, ?, ?, ?, ?)"
 STATUS = "INSERT OR IGNORE INTO statuses VALUES (?, ?, ?, ?)"
 EVENT = "INSERT INTO events (came, kind, of, text) VALUES (?, ?, ?, ?)"
 MINUTE = "INSERT OR REPLACE INTO minutes VALUES (?, ?, ?, ?, ?, ?, ?)"
+HOUR = "INSERT OR REPLACE INTO gateway_hours VALUES (?, ?, ?, ?, ?)"
 NAME = "INSERT OR REPLACE INTO names VALUES (?, ?)"
 MONTH, YEAR = 31 * 86_400, 366 * 86_400
 # how many events stay, however many a stranger causes
@@ -108,6 +111,7 @@ def old(now: float) -> list[Row]:
     return [
         ("DELETE FROM uplinks WHERE came < ?", (now - MONTH,)),
         ("DELETE FROM sessions WHERE came < ?", (now - MONTH,)),
+        ("DELETE FROM gateway_hours WHERE hour < ?", ((now - MONTH) // 3600,)),
         ("DELETE FROM statuses WHERE came < ?", (now - YEAR,)),
         ("DELETE FROM minutes WHERE minute < ?", ((now - YEAR) // 60,)),
         (f"DELETE FROM events WHERE number <= {last} - ?", (MOST_EVENTS,)),

@@ -7,17 +7,17 @@ from collections.abc import Iterable
 from dataclasses import astuple, dataclass
 
 from . import history
-from .devices import RECENT, Device, Gateway, Refused, Report, Session, Uplink
+from .devices import RECENT, Device, Gateway, GatewayHour, Refused, Report, Session, Uplink
 from .history import History
 
 DAY = 86_400
 # how many minutes, events and senders of refused frames are in memory
 MOST_MINUTES, MOST_EVENTS, MOST_SENDERS = 7 * 24 * 60, 300, 2000
-# gateways that were heard in the last days are known after a restart, and are missed
+# gateways that were heard in these last days are known after a restart, and are missed
 GATEWAY_DAYS = 7
 NAME_LENGTH = 60
 SESSIONS = "SELECT device, session, first, last, count FROM sessions"
-GATEWAYS = "SELECT gateway, count(*), sum(snr), max(came) FROM uplinks WHERE came > ? GROUP BY 1"
+GATEWAYS = "SELECT gateway, hour, best, snr_sum, last FROM gateway_hours WHERE hour >= ?"
 UPLINKS = """SELECT came, gateway, snr, rssi, rate FROM uplinks WHERE device = ?
     ORDER BY session DESC, counter DESC LIMIT ?"""
 REPORTS = "SELECT device, max(came), margin, battery FROM statuses GROUP BY device"
@@ -60,6 +60,7 @@ class Network:
         self.refused: dict[tuple[int, str], Refused] = {}
         self.events: deque[Event] = deque(maxlen=MOST_EVENTS)
         self.minutes: dict[int, Minute] = {}
+        self.passed: dict[tuple[str, int], tuple[int, list[tuple[int, int]]]] = {}
         # the upper seven bits of this network's DevAddrs, if its NetID is known
         self.prefix = None if net_id is None else net_id & 0x3F
         self.status: dict[str, str] = {}
@@ -78,10 +79,10 @@ class Network:
         first = int(time.time() // 60) - MOST_MINUTES
         for minute, *values in self.kept.rows(MINUTES, first):
             self.minutes[minute] = Minute(*values)
-        since = time.time() - GATEWAY_DAYS * DAY
-        for eui, count, snr_sum, last in self.kept.rows(GATEWAYS, since):
+        for eui, hour, *values in self.kept.rows(GATEWAYS, oldest_hour()):
             gateway = self.gateway(eui)
-            gateway.best, gateway.snr_sum, gateway.last = count, snr_sum, last
+            gateway.hours[hour] = GatewayHour(*values)
+            gateway.last = max(gateway.last, gateway.hours[hour].last)
         for device in self.devices.values():
             rows = self.kept.rows(UPLINKS, device.eui, RECENT)
             for row in reversed(rows):
@@ -137,19 +138,33 @@ class Network:
         for gateway in self.gateways.values():
             for minute in [at for at in gateway.minutes if at < now - 60]:
                 del gateway.minutes[minute]
+            self.save_hours(gateway)
+
+    def save_hours(self, gateway: Gateway) -> None:
+        """Puts a gateway's newest hours into the history, and forgets those that are too old."""
+        if gateway.is_changed:
+            for hour in sorted(gateway.hours)[-2:]:
+                self.kept.add(history.HOUR, gateway.eui, hour, *astuple(gateway.hours[hour]))
+            gateway.is_changed = False
+        for hour in [at for at in gateway.hours if at < oldest_hour()]:
+            del gateway.hours[hour]
 
     def series(self, name: str, count: int) -> list[tuple[int, int]]:
         """One of the counts in each of the last minutes: when the minute began, and the number."""
         now, none = int(time.time() // 60), Minute()
-        return [
-            (minute * 60, getattr(self.minutes.get(minute, none), name))
-            for minute in range(now - count + 1, now + 1)
-        ]
+        # minutes that have passed don't change any more, and there may be thousands
+        made, points = self.passed.get((name, count), (0, []))
+        if made != now:
+            points = [
+                (minute * 60, getattr(self.minutes.get(minute, none), name))
+                for minute in range(now - count + 1, now)
+            ]
+            self.passed[name, count] = now, points
+        return [*points, (now * 60, getattr(self.minutes.get(now, none), name))]
 
     def total(self, name: str, count: int) -> int:
         """The sum of one of the counts over the last minutes."""
-        first = int(time.time() // 60) - count
-        return sum(getattr(minute, name) for at, minute in list(self.minutes.items()) if at > first)
+        return sum(value for _, value in self.series(name, count))
 
     def silent(self, now: float) -> list[Device]:
         """The devices whose uplinks are overdue."""
@@ -200,6 +215,11 @@ class Network:
         """A join was accepted: what was refused before is over."""
         for refused in self.refused_of(eui):
             refused.is_over = refused.is_over or refused.kind == "join"
+
+
+def oldest_hour() -> int:
+    """The first hour of the last days, in which a gateway's readings count."""
+    return int(time.time() // 3600) - 24 * GATEWAY_DAYS
 
 
 def report_of(came: float, margin: int, battery: float | None) -> Report:

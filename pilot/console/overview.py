@@ -11,6 +11,8 @@ from .plots import Plot, Point, Series
 SPANS = {"1h": 60, "6h": 360, "24h": 1440, "7d": 10_080}
 NAMES = {"1h": "1 hour", "6h": "6 hours", "24h": "24 hours", "7d": "7 days"}
 MOST_BARS, GATEWAY_MINUTES = 120, 30
+# the room for labels at the left of a plot, as a part of its span
+MARGIN = 0.04
 
 
 def span_of(query: str) -> str:
@@ -41,7 +43,7 @@ def traffic(network: Network, span: str) -> Plot:
         Series("line", means(network.series("missing", count), each), "missing", "warn"),
         Series("line", means(network.series("refused", count), each), "refused", "bad"),
     ]
-    since = until - 60.0 * count
+    since = until - 60.0 * count * (1 + MARGIN)
     return Plot("Uplinks a minute", "", since, until, series, least=0, height=170, is_count=True)
 
 
@@ -52,7 +54,7 @@ def syncs(network: Network, span: str) -> Plot:
     points = [(at, us / 1000) for at, us in most(network.series("sync_us", count), each) if us]
     top = max([10.0, *(value for _, value in points)])
     series = [Series("dots", points, "sync", "warn")]
-    since = until - 60.0 * count
+    since = until - 60.0 * count * (1 + MARGIN)
     return Plot("Slow syncs of the disk", "ms", since, until, series, least=0, most=top, height=80)
 
 

@@ -38,8 +38,8 @@ class Series:
         if self.kind == "dots":
             path = "".join(f"M{at:g} {value:g}h0" for at, value in points)
         elif self.kind == "bars":
-            width = 0.78 * WIDTH / max(len(points), 1)
-            bare = y(low)
+            step = points[1][0] - points[0][0] if len(points) > 1 else WIDTH
+            width, bare = 0.78 * step, y(low)
             path = "".join(
                 f"M{at:g} {HEIGHT}V{value:g}h{width:.2f}V{HEIGHT}z"
                 for at, value in points

@@ -97,10 +97,10 @@ def test_overview(console: Console) -> None:
     assert "Devices joined 1 of 2, 4096 slots" in text
     assert "Gateways online 1 of 1" in text
     assert "Uplinks, 1 hour 3" in text
-    assert "Missing readings, 1 hour 2 40.0 % of all" in text
+    assert "Missing, 1 hour 2 40.0 % of all" in text
     assert "Refused, 1 hour 1" in text
     assert "Nothing needs attention." in text
-    assert "Missing readings, 7 days 2" in console.get("/?span=7d").text
+    assert "Missing, 7 days 2" in console.get("/?span=7d").text
 
 
 def test_device(console: Console) -> None:
