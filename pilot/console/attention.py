@@ -1,0 +1,108 @@
+"""What needs an operator's attention: what is wrong, why, and what to do."""
+
+import time
+from collections import Counter
+from collections.abc import Iterator
+from dataclasses import dataclass
+
+from .network import DAY, GATEWAY_DAYS, Network
+from .refusals import refusal
+from .text import ago, plural
+
+# the levels, the gravest first: a monitor is alarmed by the first one
+GRAVE, WARNING, NOTE = 0, 1, 2
+# a sync above this makes downlinks miss their windows (docs/OPERATING.md, "The disk"), in ms; and
+# for how many minutes it needs attention
+SLOW_SYNC, SLOW_MINUTES = 200, 60
+NEARLY_FULL = 0.9
+
+
+@dataclass(frozen=True)
+class Problem:
+    """Something that needs attention, and the page that has more."""
+
+    level: int
+    what: str
+    why: str
+    remedy: str
+    page: str
+
+
+def problems(network: Network) -> list[Problem]:
+    """All of them, the gravest first."""
+    now = time.time()
+    found = [*of_programs(network), *of_gateways(network, now), *of_disk(network)]
+    found += [*of_devices(network, now), *of_joins(network, now)]
+    return sorted(found, key=lambda problem: problem.level)
+
+
+def of_programs(network: Network) -> Iterator[Problem]:
+    """The server, the broker and the console itself."""
+    if network.is_serving is False:
+        why = "lnsd doesn't run, or the lookout doesn't"
+        remedy = "Check systemctl status lnsd bozintar-lookout."
+        yield Problem(GRAVE, "No server answers", why, remedy, "/server")
+    if not network.is_broker_there:
+        why = "Readings don't come until it is back"
+        yield Problem(
+            GRAVE, "The broker is away", why, "Check systemctl status mosquitto.", "/server"
+        )
+    if network.kept.fault:
+        why = f"New history isn't kept: {network.kept.fault}"
+        remedy = "Make room on the console's disk."
+        yield Problem(GRAVE, "The history can't be written", why, remedy, "/server")
+
+
+def of_gateways(network: Network, now: float) -> Iterator[Problem]:
+    """Gateways without a link, of those that were there lately."""
+    for gateway in network.gateways.values():
+        is_recent = not gateway.last or now - gateway.last < GATEWAY_DAYS * DAY
+        if gateway.is_linked is False and is_recent:
+            what = f"Gateway {network.name(gateway.eui)} is offline"
+            why = f"It has no link. Last uplink {ago(gateway.last, now)}"
+            yield Problem(GRAVE, what, why, "Check its power and its network.", "/gateways")
+
+
+def of_disk(network: Network) -> Iterator[Problem]:
+    """A disk that is slow, and a store that is nearly full."""
+    slowest = max(value for _, value in network.series("sync_us", SLOW_MINUTES)) // 1000
+    if slowest >= SLOW_SYNC:
+        what = "The disk is slow"
+        why = f"A sync took {slowest} ms in the last hour, so downlinks may come too late"
+        yield Problem(WARNING, what, why, 'See "The disk" in OPERATING.', "/server")
+    if network.slots and len(network.devices) > NEARLY_FULL * network.slots:
+        why = f"{len(network.devices)} of {network.slots} slots are taken"
+        remedy = "More devices need another server."
+        yield Problem(NOTE, "The store is nearly full", why, remedy, "/server")
+
+
+def of_devices(network: Network, now: float) -> Iterator[Problem]:
+    """Devices that are silent, weak, or have a low battery."""
+    if silent := network.silent(now):
+        last = max(device.last for device in silent)
+        why = f"The latest uplink of them came {ago(last, now)}"
+        remedy = "Check whether one gateway, or one house, is common to them."
+        what = f"{plural(len(silent), 'device')} silent"
+        yield Problem(WARNING, what, why, remedy, "/devices?show=silent")
+    devices = list(network.devices.values())
+    if low := sum(device.has_low_battery for device in devices):
+        what = f"{plural(low, 'device')} with a low battery"
+        yield Problem(WARNING, what, "Below 15 %", "Plan a visit.", "/devices?show=battery")
+    if weak := sum(device.is_weak for device in devices):
+        what = f"{plural(weak, 'device')} with a weak signal"
+        why = "The best SNR is less than 3 dB above the floor"
+        remedy = "Place a gateway nearer to them."
+        yield Problem(NOTE, what, why, remedy, "/devices?show=weak")
+
+
+def of_joins(network: Network, now: float) -> Iterator[Problem]:
+    """Devices that can't join, by the reason."""
+    waiting: Counter[int] = Counter()
+    for refused in network.refused.values():
+        is_open = refused.kind == "join" and not refused.is_over and now - refused.last < DAY
+        if is_open and refusal(refused.number).needs_attention:
+            waiting[refused.number] += 1
+    for number, count in sorted(waiting.items()):
+        reason = refusal(number)
+        what = f"{plural(count, 'device')} can't join: {reason.name}"
+        yield Problem(WARNING, what, reason.meaning.rstrip("."), reason.remedy, "/refused")

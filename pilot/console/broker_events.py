@@ -1,0 +1,142 @@
+"""Events of the broker, as applications-mqtt publishes them. Nothing of them is believed: anybody
+who may publish there may have sent them."""
+
+import re
+import time
+from collections.abc import Callable
+
+from bozintar import fields
+from bozintar.fields import Wrong
+
+from . import history, mac_commands
+from .devices import Device, Report, Session, Uplink
+from .network import Network
+
+TOPICS = ["application/+/device/+/event/+"]
+TOPIC = re.compile(r"application/(1[0-5]|\d)/device/([0-9a-f]{16})/event/([a-z]{2,10})")
+EUI = re.compile(r"[0-9A-F]{16}")
+MOST_PAYLOAD, MOST_TEXT = 10_000, 160
+# more than any store has room for
+MOST_DEVICES = 8192
+MOST_COUNTER, MOST_NONCE = 2**32 - 1, 2**24 - 1
+# how the history marks a device with another source of power than a battery
+ON_MAINS = -1.0
+
+
+def take(network: Network, topic: str, payload: bytes) -> None:
+    """An event. Kinds that aren't known are ignored."""
+    found = TOPIC.fullmatch(topic)
+    if not found or len(payload) > MOST_PAYLOAD:
+        raise Wrong("no topic of an event, or a payload that is too long")
+    said = fields.table(fields.parsed(payload))
+    taker = TAKERS.get(found[3])
+    if taker:
+        if found[2].upper() not in network.devices and len(network.devices) >= MOST_DEVICES:
+            raise Wrong("too many devices")
+        device = network.devices.get(found[2].upper()) or Device(found[2].upper())
+        taker(network, device, said)
+        # only what was understood makes a device known
+        device.application = found[1]
+        network.devices.setdefault(device.eui, device)
+
+
+def take_up(network: Network, device: Device, said: dict) -> None:
+    """A reading."""
+    session = fields.whole(said, "joinNonce", 0, MOST_NONCE)
+    counter = fields.whole(said, "fCnt", 0, MOST_COUNTER)
+    rate, port = fields.whole(said, "dr", 0, 5), fields.whole(said, "fPort", 0, 255)
+    copies, size = fields.whole(said, "copies", 0, 64), len(fields.payload(said, "data", 255))
+    hz = fields.whole(fields.inner(said, "txInfo"), "frequency", 0, 10**10)
+    uplink = uplink_of(said, rate)
+    known = device.sessions.setdefault(session, Session(counter, counter - 1))
+    if counter <= known.last:
+        return  # the broker delivered it twice
+    minute = network.minute()
+    minute.uplinks += 1
+    minute.missing += counter - known.last - 1
+    known.last, known.count = counter, known.count + 1
+    if session >= (device.session or 0):
+        device.session, device.last_up = session, counter
+    device.add(uplink)
+    device.update()
+    network.gateway(uplink.gateway).add_best(uplink)
+    how = (rate, uplink.snr, uplink.rssi, uplink.gateway, hz, copies, size)
+    network.kept.add(history.UPLINK, device.eui, session, counter, uplink.came, port, *how)
+    counts = (known.first, known.last, known.count)
+    network.kept.add(history.SESSION, device.eui, session, *counts, uplink.came)
+
+
+def uplink_of(said: dict, rate: int) -> Uplink:
+    """How the best gateway heard it."""
+    receptions = said.get("rxInfo")
+    if not isinstance(receptions, list) or not receptions:
+        raise Wrong("rxInfo has no gateway")
+    best = fields.table(receptions[0])
+    gateway = fields.text(best, "gatewayId").upper()
+    if not EUI.fullmatch(gateway):
+        raise Wrong("gatewayId is no EUI")
+    snr = float(fields.number(best, "snr", *fields.SNR))
+    return Uplink(time.time(), gateway, snr, fields.whole(best, "rssi", -200, 50), rate)
+
+
+def take_status(network: Network, device: Device, said: dict) -> None:
+    """A DevStatusAns."""
+    has_mains = is_true(said, "externalPowerSource")
+    is_unknown = is_true(said, "batteryLevelUnavailable")
+    battery = None if has_mains or is_unknown else fields.number(said, "batteryLevel", 0, 100)
+    margin, now = fields.whole(said, "margin", -32, 31), time.time()
+    device.report = Report(now, margin, battery, has_mains)
+    network.kept.add(history.STATUS, device.eui, now, ON_MAINS if has_mains else battery, margin)
+
+
+def take_ack(network: Network, device: Device, said: dict) -> None:
+    """What became of an item."""
+    well = "acknowledged" if is_true(said, "acknowledged") else "not acknowledged"
+    network.note("item", device.eui, f"Downlink {item_of(said)} {well}")
+
+
+def take_queued(network: Network, device: Device, said: dict) -> None:
+    """An item waits."""
+    network.note("item", device.eui, f"Downlink queued: item {item_of(said)}")
+
+
+def take_mac(network: Network, device: Device, said: dict) -> None:
+    """The device sent MAC commands."""
+    text = mac_commands.answers(fields.text(said, "commands")[:256])
+    network.note("mac", device.eui, f"MAC answer: {text[:MOST_TEXT]}")
+
+
+def take_mac_queued(network: Network, device: Device, said: dict) -> None:
+    """MAC commands wait for the device."""
+    text = mac_commands.requests(fields.text(said, "commands")[:256])
+    network.note("mac", device.eui, f"Downlink queued: {text[:MOST_TEXT]}")
+
+
+def take_log(network: Network, device: Device, said: dict) -> None:
+    """Something went wrong."""
+    text = f"{fields.text(said, 'code')[:40]}: {fields.text(said, 'description')}"
+    network.note("item", device.eui, f"Error {text[:MOST_TEXT]}")
+
+
+def item_of(said: dict) -> str:
+    """The id of an item."""
+    return fields.text(said, "queueItemId")[:40]
+
+
+def is_true(said: dict, name: str) -> bool:
+    """A field that is true or false."""
+    value = said.get(name)
+    if not isinstance(value, bool):
+        raise Wrong(f"{name} is neither true nor false")
+    return value
+
+
+TAKERS: dict[str, Callable[[Network, Device, dict], None]] = {
+    "up": take_up,
+    "status": take_status,
+    "ack": take_ack,
+    "queued": take_queued,
+    "mac": take_mac,
+    "macqueued": take_mac_queued,
+    "log": take_log,
+}

@@ -1,0 +1,215 @@
+"""A device, a gateway and a refused sender, as the console knows them."""
+
+from collections import deque
+from dataclasses import dataclass, field
+
+# the least SNR at which each data rate is heard, in dB (the floors of docs/FORMATS.md)
+FLOORS = (-20.0, -17.5, -15.0, -12.5, -10.0, -7.5)
+# how many of the last uplinks an interval and a margin are made of, and how many gaps an interval
+# needs at least
+RECENT, LEAST_GAPS = 20, 3
+# a device is silent if its uplink is late by this number of its intervals, and of seconds
+LATE, LEAST_LATE = 3.0, 120.0
+# below this margin in dB a device is weak; below this percentage a battery is low
+WEAK, LOW_BATTERY = 3.0, 15.0
+
+
+@dataclass
+class Session:
+    """The readings that came of a session. Counters before the first one aren't missing."""
+
+    first: int
+    last: int
+    count: int = 0
+
+    @property
+    def missing(self) -> int:
+        """How many counters were passed over."""
+        return self.last - self.first + 1 - self.count if self.count else 0
+
+
+@dataclass(frozen=True)
+class Report:
+    """A DevStatusAns, and when it came. The battery is in percent, or None if the device can't
+    measure it."""
+
+    came: float
+    margin: int
+    battery: float | None
+    has_mains: bool
+
+    @property
+    def is_low(self) -> bool:
+        """Whether the battery is low."""
+        return not self.has_mains and self.battery is not None and self.battery < LOW_BATTERY
+
+
+@dataclass(frozen=True)
+class Uplink:
+    """How an uplink was heard by its best gateway."""
+
+    came: float
+    gateway: str
+    snr: float
+    rssi: int
+    # None if only the server's list has the uplink
+    rate: int | None = None
+
+    @property
+    def margin(self) -> float | None:
+        """How far the SNR is above the floor of the data rate."""
+        return None if self.rate is None else self.snr - FLOORS[self.rate]
+
+
+@dataclass
+class Device:
+    """A device."""
+
+    eui: str
+    slot: int = -1
+    # the application that has it, once an event came
+    application: str = ""
+    # of the server's list: JoinNonces, counters, items
+    granted: int = 0
+    session: int | None = None
+    last_up: int | None = None
+    next_down: int | None = None
+    items: int = 0
+    heard: int = 0
+    uplink: Uplink | None = None
+    report: Report | None = None
+    sessions: dict[int, Session] = field(default_factory=dict)
+    recent: deque[Uplink] = field(default_factory=lambda: deque(maxlen=RECENT))
+    # what follows from these, since pages need it of all devices at once
+    interval: float | None = None
+    margin: float | None = None
+    stored: int = 0
+    missing: int = 0
+
+    @property
+    def is_joined(self) -> bool:
+        """Whether it has a session."""
+        return self.session is not None
+
+    @property
+    def state(self) -> str:
+        """Whether it has joined: `accepted` if it was sent an accept and nothing came after it."""
+        if self.session is None:
+            return "accepted" if self.granted else "never"
+        return "again" if self.granted > self.session else "joined"
+
+    @property
+    def last(self) -> float:
+        """When its last uplink came; 0 if none has."""
+        return self.uplink.came if self.uplink else 0.0
+
+    @property
+    def due(self) -> float | None:
+        """When its next uplink is expected."""
+        return self.last + self.interval if self.interval and self.last else None
+
+    def add(self, uplink: Uplink) -> None:
+        """One more uplink, the last one now."""
+        self.uplink = uplink
+        self.recent.append(uplink)
+
+    def update(self) -> None:
+        """Computes what follows from its uplinks and sessions."""
+        moments = [uplink.came for uplink in self.recent]
+        gaps = sorted(later - at for at, later in zip(moments, moments[1:]) if later > at)
+        self.interval = gaps[len(gaps) // 2] if len(gaps) >= LEAST_GAPS else None
+        rate = self.recent[-1].rate if self.recent else None
+        margins = [uplink.margin for uplink in self.recent if uplink.rate == rate]
+        self.margin = max((margin for margin in margins if margin is not None), default=None)
+        self.stored = sum(session.count for session in self.sessions.values())
+        self.missing = sum(session.missing for session in self.sessions.values())
+
+    def is_silent(self, now: float) -> bool:
+        """Whether its next uplink is long overdue."""
+        if not (self.is_joined and self.last and self.interval):
+            return False
+        return now - self.last > max(LATE * self.interval, LEAST_LATE)
+
+    @property
+    def is_weak(self) -> bool:
+        """Whether it is hardly heard at its data rate."""
+        return self.margin is not None and self.margin < WEAK
+
+    @property
+    def has_low_battery(self) -> bool:
+        """Whether its last report had a low battery."""
+        return self.report is not None and self.report.is_low
+
+
+@dataclass
+class GatewayMinute:
+    """What a gateway did in a minute."""
+
+    copies: int = 0
+    best: int = 0
+
+
+@dataclass
+class GatewayHour:
+    """The readings that a gateway heard best in an hour, and when the last of them came."""
+
+    best: int = 0
+    snr_sum: float = 0.0
+    last: float = 0.0
+
+
+@dataclass
+class Gateway:
+    """A gateway."""
+
+    eui: str
+    # None if the console doesn't know: the server says only how many gateways have a link
+    is_linked: bool | None = None
+    last: float = 0.0
+    # what its bridge has counted; None without the bridge's counts
+    copies: int | None = None
+    minutes: dict[int, GatewayMinute] = field(default_factory=dict)
+    hours: dict[int, GatewayHour] = field(default_factory=dict)
+    # whether the present hour has changed since it was saved
+    is_changed: bool = False
+
+    @property
+    def best(self) -> int:
+        """How many readings it heard best in the last days."""
+        return sum(hour.best for hour in self.hours.values())
+
+    @property
+    def snr(self) -> float | None:
+        """The mean SNR of these."""
+        snr_sum = sum(hour.snr_sum for hour in self.hours.values())
+        return snr_sum / self.best if self.best else None
+
+    def add_best(self, uplink: Uplink) -> None:
+        """It heard a reading best, and so it has a link."""
+        hour = self.hours.setdefault(int(uplink.came // 3600), GatewayHour())
+        hour.best, hour.snr_sum, hour.last = hour.best + 1, hour.snr_sum + uplink.snr, uplink.came
+        self.last, self.is_linked, self.is_changed = uplink.came, True, True
+        self.minute(uplink.came).best += 1
+
+    def minute(self, at: float) -> GatewayMinute:
+        """The counts of a moment's minute."""
+        return self.minutes.setdefault(int(at // 60), GatewayMinute())
+
+
+@dataclass
+class Refused:
+    """The frames of one sender that were refused for one reason. The sender is what the frames
+    themselves say: a DevEUI or a DevAddr, or nothing."""
+
+    number: int
+    sender: str
+    kind: str
+    first: float
+    last: float = 0.0
+    count: int = 0
+    # of a join: its DevNonce
+    nonce: int | None = None
+    gateway: str = ""
+    snr: float = 0.0
+    # whether a later join of the device was accepted
+    is_over: bool = False

@@ -1,0 +1,228 @@
+"""What the console knows of the network now. Lines of lnsd, events of the broker and counts of the
+bridges fill it; after a restart the history brings back what these don't."""
+
+import time
+from collections import deque
+from collections.abc import Iterable
+from dataclasses import astuple, dataclass
+
+from . import history
+from .devices import RECENT, Device, Gateway, GatewayHour, Refused, Report, Session, Uplink
+from .history import History
+
+DAY = 86_400
+# how many minutes, events and senders of refused frames are in memory
+MOST_MINUTES, MOST_EVENTS, MOST_SENDERS = 7 * 24 * 60, 300, 2000
+# gateways that were heard in these last days are known after a restart, and are missed
+GATEWAY_DAYS = 7
+NAME_LENGTH = 60
+SESSIONS = "SELECT device, session, first, last, count FROM sessions"
+GATEWAYS = "SELECT gateway, hour, best, snr_sum, last FROM gateway_hours WHERE hour >= ?"
+UPLINKS = """SELECT came, gateway, snr, rssi, rate FROM uplinks WHERE device = ?
+    ORDER BY session DESC, counter DESC LIMIT ?"""
+REPORTS = "SELECT device, max(came), margin, battery FROM statuses GROUP BY device"
+EVENTS = "SELECT came, kind, of, text FROM events ORDER BY number DESC LIMIT ?"
+MINUTES = "SELECT * FROM minutes WHERE minute >= ? ORDER BY 1"
+
+
+@dataclass
+class Minute:
+    """What is counted in a minute, in the order of the history's columns."""
+
+    uplinks: int = 0
+    missing: int = 0
+    refused: int = 0
+    joins: int = 0
+    dropped: int = 0
+    sync_us: int = 0
+
+
+@dataclass(frozen=True)
+class Event:
+    """Something that an operator wants to see. `of` is the EUI of a device or a gateway, or
+    nothing."""
+
+    came: float
+    kind: str
+    of: str
+    text: str
+
+
+class Network:
+    """All that is known."""
+
+    def __init__(self, kept: History, net_id: int | None = None):
+        self.kept = kept
+        self.devices: dict[str, Device] = {}
+        self.by_slot: dict[int, str] = {}
+        self.gateways: dict[str, Gateway] = {}
+        self.names: dict[str, str] = {}
+        self.refused: dict[tuple[int, str], Refused] = {}
+        self.events: deque[Event] = deque(maxlen=MOST_EVENTS)
+        self.minutes: dict[int, Minute] = {}
+        self.passed: dict[tuple[str, int], tuple[int, list[tuple[int, int]]]] = {}
+        # the upper seven bits of this network's DevAddrs, if its NetID is known
+        self.prefix = None if net_id is None else net_id & 0x3F
+        self.status: dict[str, str] = {}
+        self.status_came, self.began = 0.0, 0.0
+        self.is_serving: bool | None = None
+        self.is_broker_there = False
+        self.load()
+
+    # what the history has
+
+    def load(self) -> None:
+        """Takes what the history has kept."""
+        for device, session, *counts in self.kept.rows(SESSIONS):
+            self.device(device).sessions[session] = Session(*counts)
+        self.names = {eui: name for eui, name in self.kept.rows("SELECT eui, name FROM names")}
+        first = int(time.time() // 60) - MOST_MINUTES
+        for minute, *values in self.kept.rows(MINUTES, first):
+            self.minutes[minute] = Minute(*values)
+        for eui, hour, *values in self.kept.rows(GATEWAYS, oldest_hour()):
+            gateway = self.gateway(eui)
+            gateway.hours[hour] = GatewayHour(*values)
+            gateway.last = max(gateway.last, gateway.hours[hour].last)
+        for device in self.devices.values():
+            rows = self.kept.rows(UPLINKS, device.eui, RECENT)
+            for row in reversed(rows):
+                device.add(Uplink(*row))
+            device.update()
+        for eui, came, margin, battery in self.kept.rows(REPORTS):
+            self.device(eui).report = report_of(came, margin, battery)
+        self.events.extend(Event(*row) for row in self.kept.rows(EVENTS, MOST_EVENTS))
+
+    def device(self, eui: str) -> Device:
+        """The device of a DevEUI, which may be new."""
+        return self.devices.setdefault(eui, Device(eui))
+
+    def gateway(self, eui: str) -> Gateway:
+        """The gateway of an EUI, which may be new."""
+        return self.gateways.setdefault(eui, Gateway(eui))
+
+    def name(self, eui: str) -> str:
+        """The name of a device or a gateway, or its EUI if it has none."""
+        return self.names.get(eui) or eui
+
+    def rename(self, eui: str, name: str) -> None:
+        """Gives a device or a gateway a name."""
+        self.names[eui] = name[:NAME_LENGTH]
+        self.kept.add(history.NAME, eui, self.names[eui])
+
+    def names_of(self, rows: Iterable[tuple[str, str]]) -> None:
+        """Takes names of a file, except of what has a name already."""
+        for eui, name in rows:
+            if eui not in self.names:
+                self.rename(eui, name)
+
+    # what happens
+
+    def note(self, kind: str, of: str, text: str) -> None:
+        """Notes an event."""
+        event = Event(time.time(), kind, of, text)
+        self.events.appendleft(event)
+        self.kept.add(history.EVENT, *astuple(event))
+
+    def minute(self) -> Minute:
+        """The counts of this minute."""
+        return self.minutes.setdefault(int(time.time() // 60), Minute())
+
+    def save_minutes(self) -> None:
+        """Puts the last two minutes into the history, and forgets those that are too old."""
+        now = int(time.time() // 60)
+        for minute in (now - 1, now):
+            if minute in self.minutes:
+                self.kept.add(history.MINUTE, minute, *astuple(self.minutes[minute]))
+        for minute in [at for at in self.minutes if at < now - MOST_MINUTES]:
+            del self.minutes[minute]
+        for gateway in self.gateways.values():
+            for minute in [at for at in gateway.minutes if at < now - 60]:
+                del gateway.minutes[minute]
+            self.save_hours(gateway)
+
+    def save_hours(self, gateway: Gateway) -> None:
+        """Puts a gateway's newest hours into the history, and forgets those that are too old."""
+        if gateway.is_changed:
+            for hour in sorted(gateway.hours)[-2:]:
+                self.kept.add(history.HOUR, gateway.eui, hour, *astuple(gateway.hours[hour]))
+            gateway.is_changed = False
+        for hour in [at for at in gateway.hours if at < oldest_hour()]:
+            del gateway.hours[hour]
+
+    def series(self, name: str, count: int) -> list[tuple[int, int]]:
+        """One of the counts in each of the last minutes: when the minute began, and the number."""
+        now, none = int(time.time() // 60), Minute()
+        # minutes that have passed don't change any more, and there may be thousands
+        made, points = self.passed.get((name, count), (0, []))
+        if made != now:
+            points = [
+                (minute * 60, getattr(self.minutes.get(minute, none), name))
+                for minute in range(now - count + 1, now)
+            ]
+            self.passed[name, count] = now, points
+        return [*points, (now * 60, getattr(self.minutes.get(now, none), name))]
+
+    def total(self, name: str, count: int) -> int:
+        """The sum of one of the counts over the last minutes."""
+        return sum(value for _, value in self.series(name, count))
+
+    def silent(self, now: float) -> list[Device]:
+        """The devices whose uplinks are overdue."""
+        return [device for device in self.devices.values() if device.is_silent(now)]
+
+    @property
+    def slots(self) -> int:
+        """How many devices the store has room for; 0 if no server has answered yet."""
+        return int(self.status.get("slots", 0))
+
+    # the gateways' links
+
+    def forget_links(self) -> None:
+        """The server has ended, and all links with it."""
+        for gateway in self.gateways.values():
+            gateway.is_linked = None
+
+    def settle_links(self, linked: int) -> None:
+        """The server says how many gateways have a link: that may say of all which ones."""
+        known = list(self.gateways.values())
+        unknown = [gateway for gateway in known if gateway.is_linked is None]
+        certain = [gateway for gateway in known if gateway.is_linked]
+        if len(certain) + len(unknown) == linked:
+            for gateway in unknown:
+                gateway.is_linked = True
+        elif len(certain) >= linked:
+            for gateway in unknown:
+                gateway.is_linked = False
+
+    # refusals
+
+    def refuse(self, number: int, sender: str, kind: str) -> Refused:
+        """One more refused frame of a sender. The sender that was heard longest ago is dropped if
+        there are too many."""
+        key = number, sender
+        if len(self.refused) >= MOST_SENDERS and key not in self.refused:
+            del self.refused[min(self.refused, key=lambda of: self.refused[of].last)]
+        found = self.refused.setdefault(key, Refused(number, sender, kind, time.time()))
+        found.last, found.count, found.is_over = time.time(), found.count + 1, False
+        self.minute().refused += 1
+        return found
+
+    def refused_of(self, eui: str) -> list[Refused]:
+        """The refused frames of one sender."""
+        return [refused for (_, sender), refused in self.refused.items() if sender == eui]
+
+    def accept_join(self, eui: str) -> None:
+        """A join was accepted: what was refused before is over."""
+        for refused in self.refused_of(eui):
+            refused.is_over = refused.is_over or refused.kind == "join"
+
+
+def oldest_hour() -> int:
+    """The first hour of the last days, in which a gateway's readings count."""
+    return int(time.time() // 3600) - 24 * GATEWAY_DAYS
+
+
+def report_of(came: float, margin: int, battery: float | None) -> Report:
+    """A report of the history, where a battery below 0 stands for another source of power."""
+    has_mains = battery is not None and battery < 0
+    return Report(came, margin, None if has_mains else battery, has_mains)

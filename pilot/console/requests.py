@@ -1,0 +1,80 @@
+"""Requests to the bridges of applications (`applications-mqtt --asks`), over sockets of this
+machine. AppKeys go this way, and never over the broker."""
+
+import asyncio
+import re
+from dataclasses import dataclass
+
+from bridges.application_events import REFUSALS
+
+# how long an answer may take, in seconds: the bridge itself waits 30 for the server's
+PATIENCE = 40.0
+UNKNOWN_DEVICE = "refused 7"
+UNANSWERED = "No answer came. It may have been done: check before you send it again."
+
+
+@dataclass(frozen=True)
+class Answer:
+    """What became of a request, for a person."""
+
+    is_done: bool
+    text: str
+
+
+class Bridges:
+    """The bridges' sockets, by the numbers of their applications."""
+
+    def __init__(self, sockets: dict[str, str]):
+        self.sockets = sockets
+
+    @property
+    def applications(self) -> list[str]:
+        """The applications, in their order."""
+        return sorted(self.sockets, key=int)
+
+    async def ask(self, application: str, lines: list[str]) -> list[str]:
+        """Sends requests one after another; the answers, as many as came."""
+        found: list[str] = []
+        try:
+            reader, writer = await asyncio.open_unix_connection(self.sockets[application])
+        except (OSError, KeyError):
+            return found
+        try:
+            for line in lines:
+                writer.write(line.encode("ascii") + b"\n")
+                answer = await asyncio.wait_for(reader.readline(), PATIENCE)
+                if not answer.endswith(b"\n"):
+                    break
+                found.append(answer.decode("ascii", "replace").strip())
+        except (OSError, ValueError, asyncio.TimeoutError):
+            pass  # the bridge has ended, or its answer is longer than any
+        finally:
+            writer.close()
+        return found
+
+    async def ask_for(self, application: str, line: str) -> str:
+        """Sends a request for a device; nothing if no answer came. The server's list doesn't say
+        which application has a device; if no event did, each application is asked: those that
+        don't have the device refuse."""
+        if application in self.sockets:
+            return "".join((await self.ask(application, [line]))[:1])
+        answer = ""
+        for each in self.applications:
+            answer = "".join((await self.ask(each, [line]))[:1])
+            if answer != UNKNOWN_DEVICE:
+                break
+        return answer
+
+
+def answer_of(line: str) -> Answer:
+    """The line that answers a request, in words."""
+    kind, _, rest = line.partition(" ")
+    if kind == "refused":
+        number = int(rest) if re.fullmatch(r"\d{1,3}", rest) else 0
+        _, why = REFUSALS.get(number, ("", f"refused {rest}"))
+        return Answer(False, f"{why[:1].upper()}{why[1:]}.")
+    if kind == "provisioned":
+        return Answer(True, f"Added, in slot {rest.split(' ')[-1]}.")
+    if kind in ("queued", "macqueued"):
+        return Answer(True, "Queued. It is sent after the device's next uplink.")
+    return Answer(False, UNANSWERED)

@@ -1,0 +1,142 @@
+"""Where the console's knowledge comes from: the lookout, the broker, and the bridges' counts."""
+
+import asyncio
+import re
+import time
+from pathlib import Path
+
+from bozintar.broker import Access, Broker
+from bozintar.fields import Wrong
+from bozintar.words import log
+
+from . import broker_events, server_lines
+from .network import Network
+
+# how long the lookout may take for an answer, in seconds
+PATIENCE = 15.0
+STATUS_EVERY, DEVICES_EVERY = 2.0, 10.0
+# how long until the lookout is connected to again
+PAUSE = 1.0
+COPIES = re.compile(
+    r'pilot_gateways_[a-z]+_gateway_copies_total\{gateway="([0-9A-F]{16})"\} ([0-9.e+]{1,20})'
+)
+# in a folder of all, for example node_exporter's, or in one of each bridge
+COUNTS_FILES = ("gateways-*.prom", "*/gateways-*.prom")
+MOST_COUNTS = 100_000
+
+
+class Sources:
+    """All of them, for one network."""
+
+    def __init__(self, network: Network, lookout: str, counts: str | None):
+        self.network, self.lookout, self.counts = network, lookout, counts
+        # something has changed, so the server is asked before it is time
+        self.is_due = asyncio.Event()
+        self.broker: Broker | None = None
+
+    def connect(self, access: Access, name: str) -> None:
+        """Connects to the broker, under this name of a client."""
+        self.broker = Broker(access, name, broker_events.TOPICS, self.take, is_kept=True)
+        self.broker.start()
+
+    def end(self) -> None:
+        """Disconnects."""
+        if self.broker:
+            self.broker.end()
+
+    def take(self, topic: str, payload: bytes) -> None:
+        """An event of the broker."""
+        try:
+            broker_events.take(self.network, topic, payload)
+        except Wrong as why:
+            log(f"no event, on {topic[:80]!a}: {why}")
+
+    async def ask(self, word: str) -> str:
+        """The server's answer to a word; nothing if none comes."""
+        try:
+            reader, writer = await asyncio.open_unix_connection(self.lookout)
+        except OSError:
+            return ""
+        try:
+            writer.write(f"{word}\n".encode())
+            return (await asyncio.wait_for(reader.read(-1), PATIENCE)).decode("ascii", "replace")
+        except (OSError, asyncio.TimeoutError):
+            return ""
+        finally:
+            writer.close()
+
+    async def refresh(self) -> None:
+        """Asks for the list of devices. The lookout's may be some seconds old."""
+        server_lines.take_devices(self.network, await self.ask("devices"))
+
+    async def ask_on(self) -> None:
+        """Asks for the status and the devices again and again: nothing reports their changes."""
+        asked = 0.0
+        while True:
+            self.is_due.clear()
+            status = await self.ask("status")
+            server_lines.take_status(self.network, status)
+            self.network.is_broker_there = bool(self.broker and self.broker.is_there())
+            if status and time.monotonic() - asked >= DEVICES_EVERY:
+                asked = time.monotonic()
+                await self.refresh()
+            if self.counts:
+                take_copies(self.network, await asyncio.to_thread(copies_in, self.counts))
+            self.network.save_minutes()
+            try:
+                await asyncio.wait_for(self.is_due.wait(), STATUS_EVERY)
+            except asyncio.TimeoutError:
+                pass
+
+    async def watch(self) -> None:
+        """Takes what the server prints, without end."""
+        while True:
+            try:
+                reader, writer = await asyncio.open_unix_connection(self.lookout)
+                try:
+                    writer.write(b"watch\n")
+                    while line := (await reader.readline()).decode("ascii", "replace"):
+                        self.take_line(line.rstrip("\n"))
+                finally:
+                    writer.close()
+            except (OSError, ValueError):
+                pass  # no lookout, or a line that is longer than any of the server's
+            self.is_due.set()
+            await asyncio.sleep(PAUSE)
+
+    def take_line(self, line: str) -> None:
+        """A line of the lookout."""
+        try:
+            server_lines.take_line(self.network, line)
+        except (ValueError, IndexError) as why:
+            log(f"an unknown line {line[:80]!a}: {why}")
+        if line in ("watching", "gone"):
+            self.is_due.set()
+
+
+def copies_in(folder: str) -> dict[str, int]:
+    """The copies of each gateway, as the bridges have counted them. A file that can't be read now
+    is read the next time."""
+    found: dict[str, int] = {}
+    files = (file for pattern in COUNTS_FILES for file in Path(folder).glob(pattern))
+    for file in files:
+        try:
+            with open(file, encoding="ascii") as text:
+                pairs = COPIES.findall(text.read(MOST_COUNTS))
+        except (OSError, UnicodeError):
+            continue
+        for eui, value in pairs:
+            try:
+                found[eui] = found.get(eui, 0) + int(float(value))
+            except (ValueError, OverflowError):
+                pass  # no number after all
+    return found
+
+
+def take_copies(network: Network, counts: dict[str, int]) -> None:
+    """How many copies each gateway has sent. A bridge that starts again counts from 0."""
+    for eui, value in counts.items():
+        gateway = network.gateway(eui)
+        before = value if gateway.copies is None else gateway.copies
+        gateway.minute(time.time()).copies += value - before if value >= before else value
+        gateway.copies = value
