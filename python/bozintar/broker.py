@@ -12,15 +12,19 @@ from functools import partial
 from typing import Any
 
 from . import mqtt
+from .logs import log
 from .running import Handover
-from .words import Address, log, stop
+from .words import Address, stop
 
 KEEPALIVE = 30
 LONGEST_PAUSE = 30
 # how long until a broker that didn't take the certificate is tried again, in seconds
 REFUSED_PAUSE = 5
-# messages of the broker that wait to be read; more are dropped
-MOST_READ = 10_000
+# messages of the broker that wait to be read, and their bytes; more are dropped
+MOST_READ, MOST_BYTES = 10_000, 8 * 2**20
+# the longest payload that is read, as in pilot/mosquitto.conf: JSON takes up to thirty times its
+# size in memory
+LONGEST = 65_536
 # how long the broker may take to hear a goodbye, in seconds
 GOODBYE = 1.0
 # a broker's answer for a topic that may not be read, and above
@@ -90,6 +94,9 @@ class Broker:
         self.has_room.set()
         self.waiting, self.overrun, self.counted = 0, 0, 0
         self.taken, self.came = Handover(self.take_taken), Handover(self.read)
+        # the bytes of what came and isn't read: `came_bytes` grows in the library's thread, and
+        # `read_bytes` in the event loop's
+        self.came_bytes, self.read_bytes = 0, 0
         self.is_gone, self.fault = threading.Event(), ""
         self.is_gone.set()
         self.client = mqtt.client(name, is_kept)
@@ -165,6 +172,7 @@ class Broker:
     def read(self, found: list[tuple[str, bytes]]) -> None:
         """Reads messages."""
         for topic, payload in found:
+            self.read_bytes += len(topic) + len(payload)
             self.take(topic, payload)
 
     # what follows is called in the library's thread
@@ -220,7 +228,15 @@ class Broker:
             topic = message.topic
         except UnicodeDecodeError:
             topic = ""  # no text, which would end the library's thread
-        if not topic or message.retain or len(self.came.waiting) >= MOST_READ:
+        size = len(topic) + len(message.payload)
+        is_usable = topic and not message.retain and len(message.payload) <= LONGEST
+        if not is_usable or self.is_full(size):
             self.overrun += 1
-        else:
-            self.came.give((topic, message.payload))
+            return
+        self.came_bytes += size
+        self.came.give((topic, message.payload))
+
+    def is_full(self, more: int) -> bool:
+        """Whether there is no room for one more message of this many bytes."""
+        waiting = self.came_bytes - self.read_bytes + more
+        return len(self.came.waiting) >= MOST_READ or waiting > MOST_BYTES

@@ -7,7 +7,8 @@ from collections.abc import Iterable
 from typing import Any
 
 from .debian import library
-from .words import log, stop
+from .logs import log
+from .words import stop
 
 prometheus = library("prometheus_client")
 EVERY = 10.0

@@ -8,8 +8,10 @@ from collections.abc import AsyncIterator
 
 from . import wire
 from .links import refuse_itself
+from .logs import Seldom, log
 from .lookups import connected
-from .words import Address, log
+from .running import within
+from .words import Address
 
 # seconds between two tries: the first, and the longest, to which they double
 PAUSES = (1.0, 30.0)
@@ -37,6 +39,9 @@ class Link:
         self.name, self.address, self.greeting, self.pauses = name, address, greeting, pauses
         self.writer: asyncio.StreamWriter | None = None
         self.opened, self.is_ending = 0, False
+        # a link that comes and goes is logged at most once a minute, and its end and its return
+        # both or neither
+        self.seldom, self.is_logged = Seldom(), True
         # what is sent as soon as a link takes it, with when it was meant to; and how much was
         self.early: deque[tuple[float, bytes]] = deque(maxlen=MOST_EARLY)
         self.caught_up = 0
@@ -103,19 +108,21 @@ class Link:
                 return
             lasted = clock() - begun > LASTING
             pause = first if lasted else pause
-            log(f"{self.name}: no link to {self.address}, again in {pause:.1f} s: {why}")
+            text = f"{self.name}: no link to {self.address}, again in {pause:.1f} s: {why}"
+            self.is_logged = self.seldom.warn(why, text)
             await asyncio.sleep(pause)
             pause = min(2 * pause, longest)
 
     async def of_one(self) -> AsyncIterator[bytes]:
         """What comes over one link."""
-        connection = await asyncio.wait_for(connected(self.address), PATIENCE)
+        connection = await within(PATIENCE, connected(self.address))
         reader, writer = await asyncio.open_connection(sock=connection)
         try:
             self.prepare(writer.get_extra_info("socket"))
             writer.write(self.greeting)
             self.writer, self.opened = writer, self.opened + 1
-            log(f"{self.name}: linked to {self.address}")
+            if self.is_logged:
+                log(f"{self.name}: linked to {self.address}")
             self.catch_up()
             frames = wire.Frames()
             while piece := await reader.read(65536):

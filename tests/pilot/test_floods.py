@@ -2,6 +2,8 @@
 the network gets what one gateway may say, and all of the other one."""
 
 import json
+import socket
+import threading
 import time
 from dataclasses import dataclass, field
 
@@ -33,6 +35,10 @@ FRAMES = (
 DATAGRAMS, EACH = 20, 100
 SENT = DATAGRAMS * EACH
 NAMED = [word for eui in GATEWAYS[:2] for word in ("--gateway", eui)]
+# a flood of long datagrams: as many bytes a second, in datagrams of this many frames; and what
+# another gateway hears meanwhile: frames, and the seconds between two of them
+BYTES_A_SECOND, FRAMES_EACH = 2_500_000, 300
+OTHERS, PAUSE = 500, 0.01
 
 
 def test_bucket() -> None:
@@ -74,7 +80,7 @@ class Flood:
         printed."""
         seconds = time.monotonic() - self.begun
         told = [line.partition("  ")[2] for line in self.part.said().splitlines()]
-        due = f"gateway {GATEWAYS[0]} says more than {RATE} frames a second; the rest is dropped"
+        due = f"gateway {GATEWAYS[0]} sends more than {RATE} frames a second; the rest is dropped"
         assert [line for line in told if "dropped" in line] == [due]
         first, second = map(came_on, self.links)
         most = BURST + RATE * seconds + 1
@@ -108,6 +114,58 @@ def test_flood_by_udp(parts: Parts, network: Network) -> None:
     Air([second], []).go_on(10, lambda: second.acknowledged >= 4)
     assert flood.part.end() == 0
     flood.compare(counted(file, "gateways_udp_"), "wrong_datagrams")
+
+
+class Flooder:
+    """A stranger who uses a gateway's EUI, and sends as fast as that, until it is ended."""
+
+    def __init__(self, eui: str, port: int) -> None:
+        self.head, self.at = b"\x02\0\1\0" + bytes.fromhex(eui), (HOST, port)
+        self.sent, self.is_over = 0, False
+        self.thread = threading.Thread(target=self.work)
+
+    def work(self) -> None:
+        """Sends datagrams, each of other frames."""
+        begun, number = time.monotonic(), 0
+        with socket.socket(socket.AF_INET, socket.SOCK_DGRAM) as own:
+            while not self.is_over:
+                numbers = range(number, number + FRAMES_EACH)
+                heard = [rxpk(one, b"%08d" % one, 7) for one in numbers]
+                self.sent += own.sendto(self.head + json.dumps({"rxpk": heard}).encode(), self.at)
+                number += FRAMES_EACH
+                due = begun + self.sent / BYTES_A_SECOND
+                time.sleep(max(0.0, due - time.monotonic()))
+
+    def __enter__(self) -> "Flooder":
+        self.thread.start()
+        return self
+
+    def __exit__(self, *_: object) -> None:
+        self.is_over = True
+        self.thread.join()
+
+
+@pytest.mark.timed
+def test_flood_of_bytes(parts: Parts, network: Network) -> None:
+    """While a stranger sends 2.5 MB a second under the EUI of one gateway, 99 % of what another one
+    hears comes out."""
+    words = (*NAMED, "--counts", parts.file("gateways.prom"))
+    part = gateways(parts, network.at, *words, ready="listens on")
+    second = Forwarder(GATEWAYS[1], parts.udp_port)
+    second.look()
+    link, begun = network.link(), time.monotonic()
+    with Flooder(GATEWAYS[0], parts.udp_port) as flooder:
+        flooded = network.link()
+        for number in range(OTHERS):
+            second.hears(b"%04d" % number)
+            time.sleep(PAUSE)
+    rate = flooder.sent / (time.monotonic() - begun)
+    assert rate > 0.9 * BYTES_A_SECOND, f"{rate:.0f} bytes a second were sent"
+    assert part.end() == 0
+    flooded.close()
+    found = came_on(link)
+    second.close()
+    assert len(found) >= 0.99 * OTHERS, f"{len(found)} of {OTHERS} frames came out"
 
 
 @pytest.mark.timed
