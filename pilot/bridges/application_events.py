@@ -100,6 +100,8 @@ class Translator:
 
     def __init__(self, application: int, names: dict[tuple[str, int], str]):
         self.application, self.names = application, names
+        # the names of devices that have one
+        self.devices: dict[str, str] = {}
 
     def event(self, line: str, time: str) -> Event:
         """The event of a line. `time` is when it came. A later server may add words at the end of a
@@ -123,7 +125,9 @@ class Translator:
 
     def device_info(self, device: str) -> dict:
         """Whose event it is."""
-        return {"applicationId": str(self.application), "devEui": device.lower()}
+        info = {"applicationId": str(self.application), "devEui": device.lower()}
+        name = self.devices.get(device)
+        return {**info, "deviceName": name} if name else info
 
     def up(
         self,

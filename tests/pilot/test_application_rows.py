@@ -101,11 +101,33 @@ FILES: tuple = (
         [f"{DEVICE} 0102030405060708 {KEY} 0 1", "line 2: DevEUI isn't 16 hex digits"],
     ),
     ("# nothing\n\n", []),
+    (
+        f'name;AppKey;JoinEUI;DevEUI\n"Roof; #5, north";{KEY};0102030405060708;{DEVICE}\n',
+        [f"{DEVICE} 0102030405060708 {KEY} 0 1 Roof; #5, north"],
+    ),
+    (
+        f"{DEVICE},0102030405060708,0x{KEY},0,1,Dach S\u00fcd,\n",
+        [f"{DEVICE} 0102030405060708 {KEY} 0 1 Dach S\u00fcd"],
+    ),
+    (
+        f"DevEUI,JoinEUI,AppKey,place\n{DEVICE},0102030405060708,{KEY},roof\n",
+        [f"{DEVICE} 0102030405060708 {KEY} 0 1", "the column 'place' isn't used"],
+    ),
+    # a quote that isn't closed spoils its own line alone
+    (
+        f'"{DEVICE},0102030405060708,{KEY}\n{DEVICE},0102030405060708,{KEY}\n',
+        [f"{DEVICE} 0102030405060708 {KEY} 0 1", "line 1: there is no JoinEUI, AppKey"],
+    ),
+    (
+        f"{DEVICE},0102030405060708,{KEY}\n\n{DEVICE},0102030405060709,{KEY}\n",
+        [f"{DEVICE} 0102030405060708 {KEY} 0 1", f"line 3: {DEVICE} is in line 1, too"],
+    ),
+    (f"{DEVICE},0102030405060708,{KEY},0,1,x,y", ["line 1: there is more than the 6 columns"]),
     ("\0,\0,\0", ["line 1: DevEUI isn't 16 hex digits"]),
     (f"{DEVICE},0102030405060708,{KEY}0", ["line 1: AppKey isn't 32 hex digits"]),
     (f"{DEVICE},0102030405060708,{KEY},6", ["line 1: the offset is no number from 0 to 5"]),
     (f"{DEVICE},0102030405060708,{KEY},0,0", ["line 1: the delay is no number from 1 to 15"]),
-    (f"\n{DEVICE}", ["line 2: 1 fields, and not 3 to 5"]),
+    (f"\n{DEVICE}", ["line 2: there is no JoinEUI, AppKey"]),
 )
 
 # a line that refuses, and its code
@@ -127,15 +149,14 @@ def asked(text: str) -> str:
     return Item.read(DEVICE, text.encode()).line(8)
 
 
-def read(text: str) -> list[str]:
-    """What is read of a file of devices."""
+def read(text: str, encoding: str = "utf-8") -> list[str]:
+    """What is read of a file of devices: requests with names, and what is wrong."""
     with tempfile.NamedTemporaryFile() as file:
-        file.write(text.encode())
+        file.write(text.encode(encoding))
         file.flush()
         found = devices.read(file.name)
-    lines = [row for row in found if isinstance(row, devices.Row)]
-    faults = [f"line {row.place}: {row.why}" for row in found if isinstance(row, devices.Fault)]
-    return [row.line().removeprefix("provision ") for row in lines] + faults
+    lines = [f"{row.line().removeprefix('provision ')} {row.name}".strip() for row in found.rows]
+    return lines + found.complaints()
 
 
 @pytest.mark.parametrize("more", ("", f" {LATER}"), ids=("today", "later"))
@@ -209,3 +230,17 @@ def test_refusal(line: str, code: str) -> None:
 def test_devices(text: str, due: Any) -> None:
     """What is read of a file of devices."""
     assert read(text) == due
+
+
+def test_devices_of_a_table_program() -> None:
+    """Excel's "Unicode text" is UTF-16 with tabs."""
+    text = f"DevEUI\tJoinEUI\tAppKey\tName\r\n{DEVICE}\t0102030405060708\t{KEY}\tDach\r\n"
+    assert read(text, "utf-16") == [f"{DEVICE} 0102030405060708 {KEY} 0 1 Dach"]
+
+
+def test_name_of_a_device() -> None:
+    """A device's name is in its events, as ChirpStack has it."""
+    translator = Translator(3, {})
+    translator.devices = {DEVICE: "roof"}
+    info = translator.event(f"acked {DEVICE} 5", TIME).body["deviceInfo"]
+    assert info == {**INFO, "deviceName": "roof"}
