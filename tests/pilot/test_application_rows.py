@@ -2,14 +2,14 @@
 its format: ChirpStack's events and commands (version 4), docs/FORMATS.md."""
 
 import tempfile
-
+from pathlib import Path
 from typing import Any
 
 import pytest
 from bozintar.fields import Wrong
 from bridges import devices
-from bridges.application_events import Item, Translator, refusal, status
-from bridges.names import Names
+from bridges.application_events import Translator, command_in, refusal, status
+from bridges.names import IN_USE, Names
 
 from .rows import outcome, table
 
@@ -71,6 +71,7 @@ COMMANDS: tuple = (
     ('{"devEui":"%s","confirmed":true,"fPort":10,"data":"qrs="}', "queue %s 8 10 c AABB"),
     ('{"fPort":10,"data":"qrs"}', "queue %s 8 10 u AABB"),
     ('{"fPort":255,"object":{},"flushQueue":false}', "queue %s 8 255 u -"),
+    ('{"fPort":255,"flushQueue":1}', Wrong),
     ('{"fPort":10,"data":"","id":"x"}', "queue %s 8 10 u -"),
     ('{"devEui":"0202020202020202","fPort":10,"data":"qg=="}', Wrong),
     ('{"fPort":256,"data":"qg=="}', Wrong),
@@ -81,6 +82,18 @@ COMMANDS: tuple = (
     ('{"fPort":1,"confirmed":1}', Wrong),
     ('{"fPort":1,"id":7}', Wrong),
     ('{"fPort":1,"devEui":7}', Wrong),
+)
+
+# a command `mac`, and the line that is asked: LinkADRReq, DutyCycleReq, DevStatusReq
+MAC_COMMANDS: tuple = (
+    ('{"commands":"06","id":"x"}', "mac %s 06"),
+    ('{"devEui":"%s","commands":"0300ff01010406"}', "mac %s 0300FF01010406"),
+    ('{"commands":""}', Wrong),
+    ('{"commands":"6"}', Wrong),
+    ('{"commands":"06 06"}', Wrong),
+    ('{"commands":"%s"}' % ("06" * 129), Wrong),
+    ('{"id":"x"}', Wrong),
+    ('{"commands":6}', Wrong),
 )
 
 KEY = "2B7E151628AED2A6ABF7158809CF4F3C"
@@ -136,17 +149,23 @@ REFUSED += ((f"refused 12 {LATER}", "QUEUE_FULL"), ("refused 1 2", "REFUSED_1"))
 REFUSED += tuple((line, "REFUSED") for line in ("refused", "refused ", "refused x", "refused x 12"))
 
 
+def named(device: str, tag: int) -> str | None:
+    """The id of an item."""
+    return "3ac7e3c4" if (device, tag) == (DEVICE, 9) else None
+
+
 def translated(line: str) -> tuple[str, dict]:
     """The kind of a line's event, and what it says besides whose it is and when."""
-    event = Translator(3, {(DEVICE, 9): "3ac7e3c4"}).event(line, TIME)
+    event = Translator(3, named).event(line, TIME)
     if (event.body.pop("time"), event.body.pop("deviceInfo")) != (TIME, INFO):
         return "another device", {}
     return event.kind, event.body
 
 
-def asked(text: str) -> str:
+def asked(text: str, kind: str = "down") -> str:
     """The request of a command."""
-    return Item.read(DEVICE, text.encode()).line(8)
+    topic = f"application/3/device/{DEVICE.lower()}/command/{kind}"
+    return command_in(topic, 3, text.encode()).line(8)
 
 
 def read(text: str, encoding: str = "utf-8") -> list[str]:
@@ -163,7 +182,7 @@ def read(text: str, encoding: str = "utf-8") -> list[str]:
 def test_event_up(more: str) -> None:
     """The event of a reading. Its identifier is the same if it comes again."""
     line = f"up {DEVICE} 5 10 1 AA 2 0016C001F153A14C 867100000 1 42 -36{more}"
-    event, again = (Translator(3, {}).event(line, moment) for moment in (TIME, "later"))
+    event, again = (Translator(3, named).event(line, moment) for moment in (TIME, "later"))
     identifier = event.body.pop("deduplicationId")
     assert (event.kind, event.body) == ("up", UP)
     assert again.body["deduplicationId"] == identifier
@@ -177,7 +196,7 @@ MARKS = (f"{DEVICE} 5 10", f"{DEVICE[:-1]}2 5 10", f"{DEVICE} 6 10", f"{DEVICE} 
 def test_identifiers_of_readings() -> None:
     """Each reading has an identifier of its own."""
     lines = [f"up {mark} 1 AA 2 0016C001F153A14C 867100000 1 42 -36" for mark in MARKS]
-    events = [Translator(3, {}).event(line, TIME) for line in lines]
+    events = [Translator(3, named).event(line, TIME) for line in lines]
     assert len({event.body["deduplicationId"] for event in events}) == len(MARKS)
 
 
@@ -220,6 +239,34 @@ def test_command_down(text: str, due: Any) -> None:
     assert str(outcome(asked, text)) == due
 
 
+@table("text, due", MAC_COMMANDS)
+def test_command_mac(text: str, due: Any) -> None:
+    """What is asked for a command with MAC commands."""
+    text, due = (word.replace("%s", DEVICE) for word in (text, str(due)))
+    assert str(outcome(asked, text, "mac")) == due
+
+
+def test_ids_after_a_restart(folder: Path) -> None:
+    """Ids are known to the next run: of an item that waits; of one that the device acknowledged,
+    whose id is free; of one without acknowledgement, whose id is free a minute later; and of one
+    without an answer, whose id is free at once."""
+    now, file = 1e9, str(folder / "ids.db")
+    names = Names(file, lambda: now)
+    tags = {text: names.add(DEVICE, text) for text in ("waits", "done", "sent", "asked", "7")}
+    for text in ("waits", "done"):
+        names.hold(DEVICE, tags[text])
+    names.free(DEVICE, tags["done"])
+    names.free(DEVICE, tags["sent"], IN_USE)
+    names.forget(DEVICE, 7)
+    assert [names.is_in_use(DEVICE, text) for text in tags] == [True, False, True, True, False]
+    later = Names(file, lambda: now)
+    assert [later.text(DEVICE, tag) for tag in tags.values()] == [*list(tags)[:4], None]
+    assert [later.is_in_use(DEVICE, text) for text in tags] == [True, False, True, False, False]
+    now += IN_USE
+    assert not later.is_in_use(DEVICE, "sent") and later.is_in_use(DEVICE, "waits")
+    assert not later.is_in_use(DEVICE[::-1], "waits"), "of another device"
+
+
 @table("line, code", REFUSED)
 def test_refusal(line: str, code: str) -> None:
     """The code of what the network refuses."""
@@ -240,7 +287,7 @@ def test_devices_of_a_table_program() -> None:
 
 def test_name_of_a_device() -> None:
     """A device's name is in its events, as ChirpStack has it."""
-    translator = Translator(3, {})
+    translator = Translator(3, named)
     translator.devices = {DEVICE: "roof"}
     info = translator.event(f"acked {DEVICE} 5", TIME).body["deviceInfo"]
     assert info == {**INFO, "deviceName": "roof"}

@@ -117,7 +117,20 @@ def test_refused_items(whole: Whole, dashboard: Dashboard) -> None:
     await_that("queued", lambda: "last" in queued())
     assert queued() == ["the same", "last"]
     codes = [body["code"] for _, kind, body in dashboard.events if kind == "log"]
-    assert codes == ["UNKNOWN_DEVICE", "BAD_PORT", "DOWNLINK_PAYLOAD_SIZE"]
+    due = ["UNKNOWN_DEVICE", "BAD_PORT", "DOWNLINK_PAYLOAD_SIZE", "ID_IN_USE"]
+    assert sorted(codes) == sorted(due)
+
+
+def test_status_of_a_device(whole: Whole, dashboard: Dashboard) -> None:
+    """A DevStatusReq is queued by hand, and goes down after the next reading (TS001-1.0.4 §5.5)."""
+    meter = whole.meters[0]
+    topic = f"application/{APPLICATION}/device/{meter.dev_eui.lower()}/command/mac"
+    dashboard.say(topic, b'{"commands":"06"}')
+    await_that("queued", lambda: dashboard.of(meter.dev_eui, "macqueued"))
+    assert whole.reading(meter), "a reading, and the request after it"
+    dashboard.say(topic, b'{"commands":"0A"}')
+    await_that("the event", lambda: dashboard.of(meter.dev_eui, "log"))
+    assert dashboard.of(meter.dev_eui, "log")[0]["code"] == "BAD_MAC"
 
 
 def wrong_events(good: dict) -> list:

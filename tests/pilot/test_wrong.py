@@ -56,6 +56,8 @@ WORDS = (
     ("applications-mqtt", (*MQTT, "--application", "16"), 2),
     ("applications-mqtt", (*MQTT, "--application", "3", "--devices", NOWHERE), 1),
     ("applications-mqtt", (*MQTT, "--application", "-1"), 2),
+    ("applications-mqtt", (*MQTT, "--application", "3", "--ids", NOWHERE), 1),
+    ("applications-mqtt", (*MQTT, "--application", "3", "--ids", "/bin/sh"), 1),
     ("applications-mqtt", ("--check",), 2),
     ("applications-mqtt", ("--check", "--devices", NOWHERE), 1),
     ("readings", (), 2),
@@ -214,7 +216,7 @@ def test_strange_peers(pilot: Pilot, strangers: list[Stranger]) -> None:
 
 def read_line(content: bytes) -> Any:
     """What the bridge of an application reads of a content."""
-    return Translator(3, {}).event(line_of(content), "")
+    return Translator(3, lambda *_: None).event(line_of(content), "")
 
 
 @pytest.mark.parametrize("read", (Downlink.read, read_line), ids=("a downlink", "a line"))
