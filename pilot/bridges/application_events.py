@@ -157,7 +157,9 @@ def command_in(topic: str, application: int, body: bytes) -> Command:
     )
     if not found:
         raise Wrong("no command down or mac of a device")
-    return (Item if found[2] == "down" else Mac).read(found[1].upper(), body)
+    if found[2] == "down":
+        return Item.read(found[1].upper(), body)
+    return Mac.read(found[1].upper(), body)
 
 
 class Translator:

@@ -4,17 +4,19 @@ silent, and the options of their commands."""
 import argparse
 import asyncio
 import signal
+import time
 from dataclasses import dataclass, field
 from typing import Any, Generic, TypeVar
 
 from bozintar import wire, words
 from bozintar.buckets import Bucket
-from bozintar.counts import COUNTS_HELP, Counts
+from bozintar.counts import COUNTS_HELP, Counts, Metric
 from bozintar.lasting import Link
 from bozintar.logs import Seldom, log, warn
 from bozintar.running import on_signals
 
 from . import named
+from .captures import Capture
 from .named import Named
 
 COUNTED = {
@@ -30,6 +32,14 @@ COUNTED = {
     "out_of_time": "downlinks for an uplink that isn't known, or of another time",
     "unknown_gateways": "what came of gateways that aren't named",
     "links_silent": "links that were closed since nothing came",
+    "closed_soon": "links that the network closed soon: another client may use the name",
+}
+# numbers of each gateway, by the names of what a gateway has
+OF_GATEWAYS = {
+    "linked": ("gauge", "whether a gateway has a link"),
+    "copies": ("counter", "frames of a gateway that were handed in"),
+    "last_copy_seconds": ("gauge", "when a gateway's last frame came, in Unix time"),
+    "last_pull_seconds": ("gauge", "when a gateway asked last for downlinks, in Unix time"),
 }
 # unknown gateways that are logged; the others are only counted
 MOST_LOGGED = 16
@@ -53,11 +63,21 @@ class Gateway:
     last: float = 0.0
     work: asyncio.Task | None = None
     bucket: Bucket = field(default_factory=lambda: Bucket(RATE, BURST))
+    # frames that were handed in, and when the last one came; and when the gateway asked last for
+    # downlinks, in Unix time
+    copies: int = 0
+    last_copy: float = 0.0
+    last_pull: float = 0.0
 
     @property
     def eui(self) -> str:
         """Its EUI."""
         return self.named.eui
+
+    @property
+    def linked(self) -> bool:
+        """Whether it has a link."""
+        return self.link.writer is not None
 
 
 G = TypeVar("G", bound=Gateway)
@@ -68,6 +88,8 @@ class Gateways(Generic[G]):
     send."""
 
     kind: type[G]
+    # of the metrics of each gateway, since two bridges may have the same list
+    bridge: str
 
     def __init__(self, given: Any, counts: Counts):
         self.given, self.counts, self.seldom = given, counts, Seldom()
@@ -76,6 +98,8 @@ class Gateways(Generic[G]):
         self.logged: set[str] = set()
         self.name(given.named)
         on_signals((signal.SIGHUP,), self.read_again)
+        counts.more = self.numbers
+        self.capture = Capture(given.capture, given.capture_size) if given.capture else None
 
     def name(self, those: dict[str, Named]) -> None:
         """Lets these gateways connect, and no others. Those that were named already go on."""
@@ -131,7 +155,24 @@ class Gateways(Generic[G]):
 
     def hand_in(self, gateway: G, heard: wire.Heard) -> None:
         """Hands a frame to the network, now or soon."""
+        if self.capture:
+            self.capture.up(heard)
+        gateway.copies += 1
+        gateway.last_copy = time.time()
         self.counts.add("copies" if gateway.link.say_soon(heard.message()) else "unlinked")
+
+    def numbers(self) -> list[Metric]:
+        """The numbers of each gateway."""
+        found = []
+        for name, (kind, text) in OF_GATEWAYS.items():
+            metric = Metric(f"pilot_gateway_{name}", kind, text)
+            for eui, gateway in self.gateways.items():
+                number = getattr(gateway, name.removesuffix("_seconds"))
+                # what never came has no time
+                if number or not name.endswith("_seconds"):
+                    metric.add(number, bridge=self.bridge, gateway=eui)
+            found.append(metric)
+        return found
 
     async def listen(self, gateway: G) -> None:
         """Lets a gateway send what the network says."""
@@ -160,7 +201,8 @@ class Gateways(Generic[G]):
             link = gateway.link
             link.catch_up()
             self.counts.add("caught_up", link.caught_up)
-            link.caught_up = 0
+            self.counts.add("closed_soon", link.closed_soon)
+            link.caught_up = link.closed_soon = 0
             if gateway.work and gateway.last < self.clock() - self.given.silent:
                 warn(f"{link.name} is silent: its link is closed")
                 self.counts.add("links_silent")
@@ -217,6 +259,19 @@ def add_words(options: words.Words, power: int, unit: str = "dBm") -> None:
         type=words.between(-10, 30),
         metavar="DBM",
         help="the same in RX2, on 869.525 MHz (as --power)",
+    )
+    options.add_argument(
+        "--capture",
+        metavar="FILE",
+        help="writes each frame that is handed in, and each that a gateway is to send, to a file "
+        "for Wireshark (pcap with LoRaTap); what was in it before goes to FILE.old",
+    )
+    options.add_argument(
+        "--capture-size",
+        type=words.between(1, 10_000),
+        default=16,
+        metavar="MB",
+        help="how large these two files may be, each, 1 to 10000 (16)",
     )
     options.add_argument("--counts", metavar="FILE", help=COUNTS_HELP)
 

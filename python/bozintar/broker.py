@@ -12,7 +12,7 @@ from functools import partial
 from typing import Any
 
 from . import mqtt
-from .logs import log
+from .logs import Seldom, log, warn
 from .running import Handover
 from .words import Address, stop
 
@@ -27,6 +27,9 @@ MOST_READ, MOST_BYTES = 10_000, 8 * 2**20
 LONGEST = 65_536
 # how long the broker may take to hear a goodbye, in seconds
 GOODBYE = 1.0
+# a connection that the broker closes in this time, in seconds, may be another client's by now
+SOON = 10.0
+BROKER_HELP = "whether the broker is connected to"
 # a broker's answer for a topic that may not be read, and above
 REFUSED = 0x80
 
@@ -98,6 +101,10 @@ class Broker:
         # `read_bytes` in the event loop's
         self.came_bytes, self.read_bytes = 0, 0
         self.is_gone, self.fault = threading.Event(), ""
+        # a connection that comes and goes is logged at most once a minute, and its end and its
+        # return both or neither
+        self.seldom, self.is_logged, self.connected = Seldom(), True, 0.0
+        self.closed_soon = 0
         self.is_gone.set()
         self.client = mqtt.client(name, is_kept)
         self.client.max_inflight_messages_set(1000)
@@ -163,6 +170,11 @@ class Broker:
         before, self.counted = self.counted, self.overrun
         return self.counted - before
 
+    def closed_since(self) -> int:
+        """How many connections the broker closed soon since the last call."""
+        found, self.closed_soon = self.closed_soon, 0
+        return found
+
     def take_taken(self, found: list) -> None:
         """The broker has some of the messages."""
         self.waiting -= len(found)
@@ -192,11 +204,13 @@ class Broker:
     def on_connect(self, client: Any, _data: Any, _flags: Any, code: int) -> None:
         """Asks for the topics, again after each connection."""
         if code:
-            log(f"the broker refuses the connection: {mqtt.paho.connack_string(code)}")
+            warn(f"the broker refuses the connection: {mqtt.paho.connack_string(code)}")
             return
         self.is_gone.clear()
-        self.fault = ""
-        log(f"connected to the broker at {self.access.address}")
+        self.fault, self.connected = "", time.monotonic()
+        if self.is_logged:
+            log(f"connected to the broker at {self.access.address}")
+        self.is_logged = True
         if self.topics:
             client.subscribe([(topic, 1) for topic in self.topics])
 
@@ -207,20 +221,26 @@ class Broker:
     def miss(self, why: str) -> None:
         """Logs why there is no connection, each reason once."""
         if why != self.fault:
-            log(f"no broker at {self.access.address}: {why}")
+            warn(f"no broker at {self.access.address}: {why}")
         self.fault = why
 
     def on_subscribe(self, _client: Any, _data: Any, _number: int, granted: Any) -> None:
         """A topic that may not be read is logged, since nothing will come of it. (mosquitto grants
         all topics, and passes on what its list allows.)"""
         if any(code >= REFUSED for code in granted):
-            log("the broker refuses topics: whose certificate is it?")
+            warn("the broker refuses topics: whose certificate is it?")
 
     def on_disconnect(self, _client: Any, _data: Any, code: int) -> None:
         """The library connects again by itself."""
+        was_there = not self.is_gone.is_set()
         self.is_gone.set()
-        if code:
-            log(f"no broker at {self.access.address}: {mqtt.paho.error_string(code)}")
+        if not code:
+            return
+        text = f"no broker at {self.access.address}: {mqtt.paho.error_string(code)}"
+        if was_there and time.monotonic() < self.connected + SOON:
+            self.closed_soon += 1
+            text += " Another client may use this client's name"
+        self.is_logged = self.seldom.warn(code, text)
 
     def on_message(self, _client: Any, _data: Any, message: Any) -> None:
         """A message, which is read in the event loop. A retained one is of the past."""

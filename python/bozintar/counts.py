@@ -3,11 +3,11 @@ Debian's python3-prometheus-client."""
 
 import asyncio
 import os
-from collections.abc import Iterable
+from collections.abc import Callable, Iterable
 from typing import Any
 
 from .debian import library
-from .logs import log
+from .logs import warn
 from .words import stop
 
 prometheus = library("prometheus_client")
@@ -61,6 +61,8 @@ class Counts:
     def __init__(self, prefix: str, helps: dict[str, str], file: str | None = None, **labels: str):
         self.prefix, self.helps, self.file, self.labels = prefix, helps, file, labels
         self.values = dict.fromkeys(helps, 0)
+        # what else is written, as it is at that moment
+        self.more: Callable[[], list[Metric]] = list
         if file:
             need_it()
 
@@ -74,7 +76,13 @@ class Counts:
         for name, value in self.values.items():
             metrics.append(Metric(f"{self.prefix}_{name}", "counter", self.helps[name]))
             metrics[-1].add(value, **self.labels)
-        return text_of(metrics)
+        return text_of([*metrics, *self.more()])
+
+    def gauge(self, name: str, text: str, number: float) -> Metric:
+        """A number of this program that goes up and down."""
+        metric = Metric(f"{self.prefix}_{name}", "gauge", text)
+        metric.add(number, **self.labels)
+        return metric
 
     def summary(self) -> str:
         """Those that aren't 0, in a line."""
@@ -95,7 +103,7 @@ class Counts:
                 is_well = True
             except OSError as why:
                 if is_well:
-                    log(f"the counts can't be written to {self.file}: {why.strerror}")
+                    warn(f"the counts can't be written to {self.file}: {why.strerror}")
                 is_well = False
             await asyncio.sleep(EVERY)
 

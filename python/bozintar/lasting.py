@@ -15,6 +15,7 @@ from .words import Address
 
 # seconds between two tries: the first, and the longest, to which they double
 PAUSES = (1.0, 30.0)
+CLOSED = "the network has closed it"
 # after how long a link counts as well again, and how long a connection may take, in seconds
 LASTING, PATIENCE = 10.0, 5.0
 # how many bytes may wait for a network that doesn't read: what is heard is of no use later
@@ -45,6 +46,8 @@ class Link:
         # what is sent as soon as a link takes it, with when it was meant to; and how much was
         self.early: deque[tuple[float, bytes]] = deque(maxlen=MOST_EARLY)
         self.caught_up = 0
+        # links that the network closed soon, as it does if another client takes the name
+        self.closed_soon = 0
 
     def say(self, message: bytes) -> bool:
         """Sends a message; whether there was a link that takes it."""
@@ -101,12 +104,15 @@ class Link:
             try:
                 async for content in self.of_one():
                     yield content
-                why = "the network has closed it"
+                why = CLOSED
             except (OSError, asyncio.TimeoutError, wire.NoMessage) as fault:
                 why = str(fault) or "nothing answers"
             if self.is_ending:
                 return
             lasted = clock() - begun > LASTING
+            if why == CLOSED and not lasted:
+                self.closed_soon += 1
+                why += "; another client may use this name"
             pause = first if lasted else pause
             text = f"{self.name}: no link to {self.address}, again in {pause:.1f} s: {why}"
             self.is_logged = self.seldom.warn(why, text)

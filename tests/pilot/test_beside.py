@@ -79,6 +79,17 @@ def test_queue_that_cant_be_flushed(bridge: Bridge) -> None:
     assert bridge.link.asked()[:2] == ["queue", FIRST]
 
 
+def test_name_of_another_client(bridge: Bridge) -> None:
+    """A link that the network closes soon may have lost its name to another client: this is logged
+    once, and counted."""
+    for _ in range(3):
+        bridge.link.close()
+        bridge.link = bridge.network.link()
+    assert bridge.part.said().count("another client may use this name") == 1
+    assert bridge.part.end() == 0
+    assert counts_in(bridge.file)["applications_mqtt_closed_soon"] >= 2
+
+
 def test_mac_commands(bridge: Bridge) -> None:
     """MAC commands are queued, or refused, and an event says which."""
     topic = f"application/3/device/{FIRST.lower()}/command/mac"

@@ -2,6 +2,7 @@
 
 import base64
 import json
+import os
 import signal
 from collections.abc import Iterable, Iterator
 from datetime import datetime, timedelta, timezone
@@ -13,7 +14,7 @@ from bozintar.links import Application
 from bozintar.meters import JOIN_EUI, Meter, Reading
 from bozintar.processes import HOST, await_that
 
-from .field import APPLICATION, GATEWAYS
+from .field import APPLICATION, GATEWAYS, counts_in
 from .parts import Parts, run
 from .rows import table
 from .whole import Dashboard, Whole
@@ -217,11 +218,11 @@ def test_check_of_a_file(text: str, status: int, due: list[str], folder: Path) -
 class Stored:
     """Readings that are stored, of events that come on a broker."""
 
-    def __init__(self, parts: Parts) -> None:
+    def __init__(self, parts: Parts, *more: str) -> None:
         parts.broker().start("running")
         self.database, at = parts.file("readings.db"), f"{HOST}:{parts.broker_port}"
         words = ("--db", self.database, "--broker", at, "--application", APPLICATION)
-        self.part = parts.own("readings", *words).start("connected")
+        self.part = parts.own("readings", *words, *more).start("connected")
         self.dashboard = Dashboard(parts.broker_port)
 
     def say(self, readings: Iterable[tuple[str, int, int]], time: str = TIME) -> None:
@@ -253,6 +254,33 @@ def test_join_nonces(stored: Stored) -> None:
     await_that("all are stored", lambda: stored.prints("--join-nonces") == due)
     assert stored.part.end() == 0
     assert stored.prints("--join-nonces") == due, "of a database that nobody has open"
+
+
+def test_two_programs_of_one_name(stored: Stored, parts: Parts) -> None:
+    """Two programs that store the readings of one application say that another client has the name
+    of theirs, and count it."""
+    file, at = parts.file("readings.prom"), f"{HOST}:{parts.broker_port}"
+    words = ("--db", parts.file("other.db"), "--broker", at, "--application", APPLICATION)
+    other = parts.own("readings", *words, "--counts", file, name="other").start("connected")
+    for part in (stored.part, other):
+        told = lambda: part.has_said("Another client may use this client's name")
+        await_that("it is told", told)
+    await_that("counted", lambda: counts_in(file)["readings_closed_soon"] > 0, 30, 0.5)
+
+
+def test_counts_of_readings(parts: Parts) -> None:
+    """What a program that stores readings says of itself."""
+    file, time = parts.file("readings.prom"), datetime.now(timezone.utc) - timedelta(hours=2)
+    stored = Stored(parts, "--counts", file)
+    with stored.dashboard:
+        stored.say([("70b3d57ed0000001", 1, 0)] * 2, time.isoformat())
+        stored.dashboard.say("application/3/device/70b3d57ed0000001/event/up", b"{}")
+        names = [f"readings_{name}" for name in ("stored", "repeated", "wrong", "broker_connected")]
+        counted = lambda: [counts_in(file)[name] for name in names] == [1, 1, 1, 1]
+        await_that("the counts", lambda: os.path.exists(file) and counted(), 30, 0.5)
+    numbers = counts_in(file)
+    assert 7200 <= numbers["readings_late_seconds"] < 7300
+    assert numbers["readings_disk_free_bytes"] > 0
 
 
 # readings: the device, JoinNonce, counters; and what is printed of them
