@@ -3,6 +3,7 @@ Debian's python3-prometheus-client."""
 
 import asyncio
 import os
+import tempfile
 from collections.abc import Callable, Iterable
 from typing import Any
 
@@ -108,14 +109,19 @@ class Counts:
             await asyncio.sleep(EVERY)
 
 
-def replace(file: str, text: str) -> None:
-    """Puts a text in a file's place at once, so that nobody reads half of it."""
-    part = f"{file}.{os.getpid()}.part"
+def replace(file: str, content: str | bytes, moment: int | None = None) -> None:
+    """Puts a text in a file's place at once, so that nobody reads half of it. All may read it, as
+    node_exporter does. `moment` is when it was written, in nanoseconds; now, by itself."""
+    folder, name = os.path.split(os.path.abspath(file))
+    # a new file whose name nobody knows: a link that others have put there isn't followed
+    number, part = tempfile.mkstemp(".part", f"{name}.", folder)
     try:
-        with open(part, "w", encoding="utf-8") as out:
-            out.write(text)
+        with os.fdopen(number, "wb") as out:
+            out.write(content.encode() if isinstance(content, str) else content)
+            os.fchmod(number, 0o644)
+        if moment is not None:
+            os.utime(part, ns=(moment, moment))
         os.replace(part, file)
     except OSError:
-        if os.path.exists(part):
-            os.unlink(part)
+        os.unlink(part)
         raise

@@ -263,8 +263,8 @@ def test_two_programs_of_one_name(stored: Stored, parts: Parts) -> None:
     words = ("--db", parts.file("other.db"), "--broker", at, "--application", APPLICATION)
     other = parts.own("readings", *words, "--counts", file, name="other").start("connected")
     for part in (stored.part, other):
-        told = lambda: part.has_said("Another client may use this client's name")
-        await_that("it is told", told)
+        is_logged = lambda: part.has_said("Another client may use this client's name")
+        await_that("it is logged", is_logged)
     await_that("counted", lambda: counts_in(file)["readings_closed_soon"] > 0, 30, 0.5)
 
 

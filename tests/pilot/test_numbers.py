@@ -145,6 +145,19 @@ def test_alerts(pilot: Pilot, folder: Path) -> None:
     assert set(ALERTS) <= found, "names that alerts use, and that are numbers"
 
 
+def test_file_that_others_have_made(folder: Path) -> None:
+    """A link that another user has put beside the numbers isn't followed; all may read the numbers,
+    whatever the umask."""
+    victim, out = folder / "victim", folder / "lnsd.prom"
+    victim.write_text("of another user", encoding="utf-8")
+    program = played(folder, f'ln -s {victim} "{out}.$PPID.part"')
+    words = ("store", "--lnsd", program, "--out", out)
+    assert run("metrics", *words, umask=0o077)[0] == 0
+    assert victim.read_text(encoding="utf-8") == "of another user"
+    assert (out.stat().st_mode & 0o777, out.is_symlink()) == (0o644, False)
+    assert "lnsd_up 1" in out.read_text(encoding="utf-8")
+
+
 def test_copied_counts(folder: Path) -> None:
     """Counts of bridges are copied as old as they are; a link isn't followed, nor is a pipe waited
     for; copies of bridges that have ended go, and nothing else does."""
