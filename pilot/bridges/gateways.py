@@ -119,6 +119,8 @@ class Gateways(Generic[G]):
         """Reads the list of gateways again. One with a fault is left as it was."""
         try:
             those = named_in(self.given.gateway, self.given.gateways)
+            if not those:
+                raise ValueError("it names no gateway")
         except (OSError, ValueError) as why:
             warn(f"the list of gateways isn't read again: {why}")
             return

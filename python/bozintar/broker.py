@@ -101,8 +101,8 @@ class Broker:
         # `read_bytes` in the event loop's
         self.came_bytes, self.read_bytes = 0, 0
         self.is_gone, self.fault = threading.Event(), ""
-        # a connection that comes and goes is logged at most once a minute, and its end and its
-        # return both or neither
+        # a connection that comes and goes is logged at most once a minute; its return, if its end
+        # was
         self.seldom, self.is_logged, self.connected = Seldom(), True, 0.0
         self.closed_soon = 0
         self.is_gone.set()
@@ -210,7 +210,7 @@ class Broker:
         self.fault, self.connected = "", time.monotonic()
         if self.is_logged:
             log(f"connected to the broker at {self.access.address}")
-        self.is_logged = True
+        self.is_logged = False
         if self.topics:
             client.subscribe([(topic, 1) for topic in self.topics])
 
@@ -222,6 +222,7 @@ class Broker:
         """Logs why there is no connection, each reason once."""
         if why != self.fault:
             warn(f"no broker at {self.access.address}: {why}")
+            self.is_logged = True
         self.fault = why
 
     def on_subscribe(self, _client: Any, _data: Any, _number: int, granted: Any) -> None:
@@ -240,7 +241,7 @@ class Broker:
         if was_there and time.monotonic() < self.connected + SOON:
             self.closed_soon += 1
             text += " Another client may use this client's name"
-        self.is_logged = self.seldom.warn(code, text)
+        self.is_logged |= self.seldom.warn(text, text)
 
     def on_message(self, _client: Any, _data: Any, message: Any) -> None:
         """A message, which is read in the event loop. A retained one is of the past."""

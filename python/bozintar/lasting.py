@@ -40,8 +40,7 @@ class Link:
         self.name, self.address, self.greeting, self.pauses = name, address, greeting, pauses
         self.writer: asyncio.StreamWriter | None = None
         self.opened, self.is_ending = 0, False
-        # a link that comes and goes is logged at most once a minute, and its end and its return
-        # both or neither
+        # a link that comes and goes is logged at most once a minute; its return, if its end was
         self.seldom, self.is_logged = Seldom(), True
         # what is sent as soon as a link takes it, with when it was meant to; and how much was
         self.early: deque[tuple[float, bytes]] = deque(maxlen=MOST_EARLY)
@@ -98,7 +97,7 @@ class Link:
         """What comes over all links of this name, one after the other, until one of them was ended
         well."""
         (first, longest), clock = self.pauses, time.monotonic
-        pause = first
+        pause, self.is_logged = first, True
         while True:
             begun = clock()
             try:
@@ -115,7 +114,7 @@ class Link:
                 why += "; another client may use this name"
             pause = first if lasted else pause
             text = f"{self.name}: no link to {self.address}, again in {pause:.1f} s: {why}"
-            self.is_logged = self.seldom.warn(why, text)
+            self.is_logged |= self.seldom.warn(why, text)
             await asyncio.sleep(pause)
             pause = min(2 * pause, longest)
 
@@ -129,6 +128,7 @@ class Link:
             self.writer, self.opened = writer, self.opened + 1
             if self.is_logged:
                 log(f"{self.name}: linked to {self.address}")
+            self.is_logged = False
             self.catch_up()
             frames = wire.Frames()
             while piece := await reader.read(65536):

@@ -31,6 +31,12 @@ def line_of(text: str, level: int, stream: Any) -> str:
     return f"{time.strftime('%Y-%m-%d %H:%M:%S')}  {text}\n"
 
 
+def complain(text: str, level: int = WARNING) -> None:
+    """Prints a line on standard error."""
+    prefix = f"<{level}>" if is_journal(sys.stderr) else ""
+    print(f"{prefix}{text}", file=sys.stderr)
+
+
 def log(text: str, level: int = INFO) -> None:
     """Prints a line. If nobody reads it (a closed pipe, a full disk), the line is lost, and nothing
     else: so nothing of it is buffered."""

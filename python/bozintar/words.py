@@ -10,7 +10,7 @@ from dataclasses import dataclass
 from types import FrameType
 from typing import Any, NoReturn
 
-from .logs import ERROR, is_journal
+from .logs import ERROR, complain
 
 EUI = re.compile(r"[0-9A-Fa-f]{16}")
 
@@ -134,8 +134,7 @@ def folder(text: str) -> str:
 
 def stop(why: str, status: int = 1) -> NoReturn:
     """Ends with a line on standard error."""
-    prefix = f"<{ERROR}>" if is_journal(sys.stderr) else ""
-    print(f"{prefix}{name()}: {why}", file=sys.stderr)
+    complain(f"{name()}: {why}", ERROR)
     sys.exit(status)
 
 

@@ -3,6 +3,7 @@ at its end, and what a gateway's bridge does if something around it fails."""
 
 import json
 import signal
+import socket
 import subprocess
 import sys
 import time
@@ -88,6 +89,18 @@ def test_name_of_another_client(bridge: Bridge) -> None:
     assert bridge.part.said().count("another client may use this name") == 1
     assert bridge.part.end() == 0
     assert counts_in(bridge.file)["applications_mqtt_closed_soon"] >= 2
+
+
+def test_return_of_a_link(bridge: Bridge) -> None:
+    """A network that is away for some tries is logged once, and so is its return."""
+    at = bridge.network.listener.getsockname()
+    bridge.network.listener.close()
+    bridge.link.close()
+    time.sleep(2.0)
+    before = len(bridge.part.said())
+    bridge.network.listener = socket.create_server(at)
+    bridge.link = bridge.network.link()
+    await_that("its return is logged", lambda: "linked to" in bridge.part.said()[before:])
 
 
 def test_mac_commands(bridge: Bridge) -> None:

@@ -127,6 +127,8 @@ def test_list_is_read_again(listed: Listed, first: Forwarder) -> None:
     assert other.greeting == b"\0" + bytes.fromhex(SECOND)
     listed.name(SECOND, "nothing")
     listed.read_again("line 2: nothing is no EUI of 16 hex digits")
+    listed.name("# nothing")
+    listed.read_again("it names no gateway")
     first.hears(b"on the link from before")
     assert (link.hears() or b"").endswith(b"on the link from before")
     listed.name(SECOND)
