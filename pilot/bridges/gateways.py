@@ -262,6 +262,12 @@ def add_words(options: words.Words, power: int, unit: str = "dBm") -> None:
         metavar="DBM",
         help="the same in RX2, on 869.525 MHz (as --power)",
     )
+    add_capture(options)
+    options.add_argument("--counts", metavar="FILE", help=COUNTS_HELP)
+
+
+def add_capture(options: words.Words) -> None:
+    """The options about a capture."""
     options.add_argument(
         "--capture",
         metavar="FILE",
@@ -275,7 +281,6 @@ def add_words(options: words.Words, power: int, unit: str = "dBm") -> None:
         metavar="MB",
         help="how large these two files may be, each, 1 to 10000 (16)",
     )
-    options.add_argument("--counts", metavar="FILE", help=COUNTS_HELP)
 
 
 def read_words(options: words.Words) -> argparse.Namespace:
