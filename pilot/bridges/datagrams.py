@@ -21,7 +21,7 @@ class Datagrams:
     def __init__(self, bound: socket.socket, take: Callable[[bytes, Any], None]):
         self.socket, self.take = bound, take
         self.piece = memoryview(bytearray(LONGEST))
-        self.room = enlarge(bound)
+        enlarge(bound)
         asyncio.get_running_loop().add_reader(bound, self.read)
 
     def read(self) -> None:
@@ -41,12 +41,10 @@ class Datagrams:
             pass
 
 
-def enlarge(bound: socket.socket) -> int:
-    """Has the system let more wait for a socket; how many bytes that are."""
+def enlarge(bound: socket.socket) -> None:
+    """Has the system let more wait for a socket."""
     for option in (socket.SO_RCVBUF, getattr(socket, "SO_RCVBUFFORCE", 33)):
         try:
             bound.setsockopt(socket.SOL_SOCKET, option, BUFFER)
         except PermissionError:
             pass
-    # Linux gives twice what was asked for, since it counts its own use too (socket(7))
-    return bound.getsockopt(socket.SOL_SOCKET, socket.SO_RCVBUF) // 2
