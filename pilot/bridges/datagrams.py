@@ -33,6 +33,10 @@ class Datagrams:
                 return  # nothing waits, or an earlier datagram couldn't be delivered
             self.take(bytes(self.piece[:length]), where)
 
+    def end(self) -> None:
+        """Reads nothing more: what comes while the program ends would begin new work."""
+        asyncio.get_running_loop().remove_reader(self.socket)
+
     def say(self, data: bytes, where: Any) -> None:
         """Sends a datagram. If it can't be sent, it is lost, as any may be."""
         try:

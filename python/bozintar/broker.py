@@ -104,7 +104,7 @@ class Broker:
         # a connection that comes and goes is logged at most once a minute; its return, if its end
         # was
         self.seldom, self.is_logged, self.connected = Seldom(), True, 0.0
-        self.closed_soon = 0
+        self.closed_soon, self.has_ended = 0, False
         self.is_gone.set()
         self.client = mqtt.client(name, is_kept)
         self.client.max_inflight_messages_set(1000)
@@ -141,6 +141,7 @@ class Broker:
     def end(self) -> None:
         """Disconnects, if the broker is there. It doesn't wait for the library's thread, which
         would stay until a broker that hangs has all messages."""
+        self.has_ended = True
         if self.is_there():
             self.client.disconnect()
             self.is_gone.wait(GOODBYE)
@@ -182,7 +183,10 @@ class Broker:
             self.has_room.set()
 
     def read(self, found: list[tuple[str, bytes]]) -> None:
-        """Reads messages."""
+        """Reads messages. What comes while the program ends would begin new work."""
+        if self.has_ended:
+            self.overrun += len(found)
+            return
         for topic, payload in found:
             self.read_bytes += len(topic) + len(payload)
             self.take(topic, payload)

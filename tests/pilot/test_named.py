@@ -199,6 +199,18 @@ def test_what_waits_in_the_socket(listed: Listed) -> None:
     await_that("all are read", read, 30, 0.2)
 
 
+def test_end_beside_a_flood(listed: Listed, first: Forwarder) -> None:
+    """What comes while a bridge ends begins nothing new: it ends at once, without a traceback."""
+    first.look()
+    listed.network.link()
+    with socket.socket(socket.AF_INET, socket.SOCK_DGRAM) as own:
+        listed.part.send_signal(signal.SIGTERM)
+        while listed.part.is_running():
+            own.sendto(b"\x02\0\1\2" + EUI, (HOST, listed.parts.udp_port))
+    assert listed.part.ended() == 0
+    assert "Task" not in listed.part.said()
+
+
 def test_many_datagrams_at_a_time() -> None:
     """The loop reads many datagrams each time that it wakes up, and then does something else."""
 
