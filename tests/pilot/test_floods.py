@@ -74,6 +74,13 @@ class Flood:
     part: Process
     links: list[End] = field(default_factory=list)
     begun: float = 0.0
+    # frames of the other gateway that were read already
+    read: list[bytes] = field(default_factory=list)
+
+    def await_last(self) -> None:
+        """Waits for the last frame of the other gateway, after which nothing of the flood comes."""
+        while b"last" not in self.read:
+            self.read.append(payload_of(self.links[1].hears(60) or b""))
 
     def compare(self, counts: dict, wrong: str) -> None:
         """Ends the bridge, and compares what came of both gateways, and what was counted and
@@ -83,6 +90,7 @@ class Flood:
         due = f"gateway {GATEWAYS[0]} sends more than {RATE} frames a second; the rest is dropped"
         assert [line for line in told if "dropped" in line] == [due]
         first, second = map(came_on, self.links)
+        second = self.read + second
         most = BURST + RATE * seconds + 1
         assert BURST <= len(first) <= most, f"frames of {SENT} in {seconds:.1f} s"
         assert first[:BURST] == [b"%04d" % number for number in range(BURST)], "the first ones"
@@ -192,6 +200,6 @@ def test_flood_by_mqtt(parts: Parts, network: Network) -> None:
         second.hears(b"loud", snr=50)
         second.hears(b"last")
         second.client.publish("other", b"", 1).wait_for_publish(30)
-        time.sleep(0.5)
+        flood.await_last()
     assert flood.part.end() == 0
     flood.compare(counted(file, "gateways_mqtt_"), "wrong_events")
