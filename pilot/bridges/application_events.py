@@ -14,7 +14,7 @@ from bozintar.wire import byte_text, bytes_of
 
 # of identifiers that follow from what they name, so that what comes twice has the same one
 SPACE = uuid.UUID("6f7a0c0e-7d0b-5f0e-9d57-0a3c5e1f7b21")
-MOST_ITEM = 242
+MOST_ITEM, MOST_MAC = 242, 128
 # an event's kind, and what it says besides whose it is and when
 Named = tuple[str, dict]
 DEV_STATUS_ANS = 6
@@ -22,11 +22,12 @@ DEV_STATUS_ANS = 6
 REFUSALS = {
     7: ("UNKNOWN_DEVICE", "no device of this application has this DevEUI"),
     12: ("QUEUE_FULL", "16 items wait for the device"),
-    13: ("MAC_QUEUE_FULL", "too many MAC commands wait for the device"),
     14: ("DOWNLINK_PAYLOAD_SIZE", "the payload has more than 242 bytes"),
     15: ("BAD_PORT", "the port isn't one from 1 to 223"),
     16: ("DEV_EUI_TAKEN", "a device has this DevEUI already; it stays as it was"),
+    13: ("MAC_QUEUE_FULL", "above 128 bytes of MAC commands would wait for the device"),
     17: ("TABLE_FULL", "each slot of the network has a device"),
+    18: ("BAD_MAC", "these aren't whole LinkADRReq, DutyCycleReq and DevStatusReq commands"),
     23: ("BACKLOG", "too many decisions wait"),
     30: ("OUT_OF_MEMORY", "the network has no memory left"),
     51: ("BAD_MESSAGE", "the network doesn't know such a request"),
@@ -47,36 +48,101 @@ class Event:
 
 
 @dataclass(frozen=True)
-class Item:
-    """A downlink that is asked for."""
+class Command:
+    """What is asked for a device, under an id."""
 
     device: str
     identifier: str
+
+    @staticmethod
+    def fields_in(device: str, body: bytes) -> tuple[dict, str]:
+        """The fields of any command, and its id."""
+        said = fields.table(fields.parsed(body))
+        if "devEui" in said and fields.text(said, "devEui").upper() != device:
+            raise Wrong("devEui isn't the topic's")
+        identifier = said.get("id") or ""
+        if not isinstance(identifier, str) or len(identifier) > 64:
+            raise Wrong("id is no text of at most 64 characters")
+        return said, identifier
+
+    @property
+    def is_followed(self) -> bool:
+        """Whether the network says later what became of it."""
+        return False
+
+    @property
+    def flushes(self) -> bool:
+        """Whether it asks that what waits before it is dropped."""
+        return False
+
+    def line(self, tag: int) -> str:
+        """The request."""
+        raise NotImplementedError
+
+    def due(self, tag: int) -> str:
+        """The answer, if the network takes it."""
+        raise NotImplementedError
+
+
+@dataclass(frozen=True)
+class Item(Command):
+    """A downlink that is asked for."""
+
     port: int
     confirmed: bool
     payload: bytes
+    flush: bool = False
 
     @classmethod
     def read(cls, device: str, body: bytes) -> "Item":
         """The item in a command `down`."""
-        said = fields.table(fields.parsed(body))
-        if "devEui" in said and fields.text(said, "devEui").upper() != device:
-            raise Wrong("devEui isn't the topic's")
-        confirmed = said.get("confirmed", False)
-        if not isinstance(confirmed, bool):
-            raise Wrong("confirmed is neither true nor false")
+        said, identifier = cls.fields_in(device, body)
+        confirmed, flush = said.get("confirmed", False), said.get("flushQueue", False)
+        for name, value in (("confirmed", confirmed), ("flushQueue", flush)):
+            if not isinstance(value, bool):
+                raise Wrong(f"{name} is neither true nor false")
         port = fields.whole(said, "fPort", 0, 255)
-        identifier = said.get("id") or ""
-        if not isinstance(identifier, str) or len(identifier) > 64:
-            raise Wrong("id is no text of at most 64 characters")
         # a longer one is refused by the network, which sends the reason
         payload = fields.payload({"data": said.get("data", "")}, "data", MOST_ITEM + 1)
-        return cls(device, identifier, port, confirmed, payload)
+        return cls(device, identifier, port, confirmed, payload, flush)
+
+    @property
+    def is_followed(self) -> bool:
+        return self.confirmed
+
+    @property
+    def flushes(self) -> bool:
+        return self.flush
 
     def line(self, tag: int) -> str:
-        """The request."""
         kind, shown = "c" if self.confirmed else "u", byte_text(self.payload)
         return f"queue {self.device} {tag} {self.port} {kind} {shown}"
+
+    def due(self, tag: int) -> str:
+        return f"queued {self.device} {tag}"
+
+
+@dataclass(frozen=True)
+class Mac(Command):
+    """MAC commands that are asked for."""
+
+    commands: str
+
+    @classmethod
+    def read(cls, device: str, body: bytes) -> "Mac":
+        """The MAC commands in a command `mac`."""
+        said, identifier = cls.fields_in(device, body)
+        commands = fields.text(said, "commands").upper()
+        # the network looks whether they are whole
+        if not re.fullmatch(rf"([0-9A-F]{{2}}){{1,{MOST_MAC}}}", commands):
+            raise Wrong(f"commands aren't hex digits of 1 to {MOST_MAC} bytes")
+        return cls(device, identifier, commands)
+
+    def line(self, _tag: int) -> str:
+        return f"mac {self.device} {self.commands}"
+
+    def due(self, _tag: int) -> str:
+        return f"macqueued {self.device} {self.commands}"
 
 
 def identifier(*of: Any) -> str:
@@ -84,22 +150,26 @@ def identifier(*of: Any) -> str:
     return str(uuid.uuid5(SPACE, " ".join(map(str, of))))
 
 
-def device_of(topic: str, application: int) -> str:
-    """The device that a command's topic names."""
+def command_in(topic: str, application: int, body: bytes) -> Command:
+    """The command of a message."""
     found = re.fullmatch(
-        rf"application/{application}/device/([0-9A-Fa-f]{{16}})/command/down", topic
+        rf"application/{application}/device/([0-9A-Fa-f]{{16}})/command/(down|mac)", topic
     )
     if not found:
-        raise Wrong("no command down of a device")
-    return found[1].upper()
+        raise Wrong("no command down or mac of a device")
+    if found[2] == "down":
+        return Item.read(found[1].upper(), body)
+    return Mac.read(found[1].upper(), body)
 
 
 class Translator:
-    """Makes events of one application's lines. `names` has the ids of items by their devices and
-    tags."""
+    """Makes events of one application's lines. `name` finds the id of an item by its device and its
+    tag."""
 
-    def __init__(self, application: int, names: dict[tuple[str, int], str]):
-        self.application, self.names = application, names
+    def __init__(self, application: int, name: Callable[[str, int], str | None]):
+        self.application, self.name = application, name
+        # the names of devices that have one
+        self.devices: dict[str, str] = {}
 
     def event(self, line: str, time: str) -> Event:
         """The event of a line. `time` is when it came. A later server may add words at the end of a
@@ -123,7 +193,9 @@ class Translator:
 
     def device_info(self, device: str) -> dict:
         """Whose event it is."""
-        return {"applicationId": str(self.application), "devEui": device.lower()}
+        info = {"applicationId": str(self.application), "devEui": device.lower()}
+        name = self.devices.get(device)
+        return {**info, "deviceName": name} if name else info
 
     def up(
         self,
@@ -169,7 +241,7 @@ class Translator:
 
     def item(self, device: str, tag: str) -> dict:
         """Which item it was: by the id that it was asked with, if that is still known."""
-        return {"queueItemId": self.names.get((device, int(tag)), tag), "tag": int(tag)}
+        return {"queueItemId": self.name(device, int(tag)) or tag, "tag": int(tag)}
 
     def mac(self, _device: str, session: str, commands: str, *_more: str) -> Named:
         """The device sent MAC commands; its status has an event of its own."""
@@ -183,12 +255,18 @@ class Translator:
         code = {"level": "ERROR", "code": "FRAME_COUNTERS_SPENT", "joinNonce": int(session)}
         return "log", {**code, "description": "the session has no downlink counter left"}
 
-    def failed(self, item: Item, code: str, description: str, time: str) -> Event:
-        """An item isn't queued."""
-        body = {"time": time, "deviceInfo": self.device_info(item.device), "level": "ERROR"}
+    def failed(self, command: Command, code: str, description: str, time: str) -> Event:
+        """What was asked for isn't queued."""
+        body = {"time": time, "deviceInfo": self.device_info(command.device), "level": "ERROR"}
         body |= {"code": code, "description": description}
-        context = {"queue_item_id": item.identifier}
-        return Event(item.device, "log", {**body, "context": context})
+        context = {"queue_item_id": command.identifier}
+        return Event(command.device, "log", {**body, "context": context})
+
+    def macqueued(self, asked: Mac, time: str) -> Event:
+        """MAC commands wait."""
+        body = {"time": time, "deviceInfo": self.device_info(asked.device)}
+        body |= {"queueItemId": asked.identifier, "commands": asked.commands}
+        return Event(asked.device, "macqueued", body)
 
 
 def status(battery: int, margin: int) -> dict:

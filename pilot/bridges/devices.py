@@ -1,11 +1,32 @@
-"""Devices in a file of values between commas or semicolons (CSV)."""
+"""Devices in a file of values between commas, semicolons or tabs (CSV)."""
 
+import csv
 import re
-from dataclasses import dataclass
+from collections.abc import Iterator
+from dataclasses import dataclass, field
 
-# the names of the first three fields of a head; the others have names of many kinds
-HEAD = ("deveui", "joineui", "appkey")
+# the columns of a file without a head, and what a head may call them, in small letters and digits
+COLUMNS = ("DevEUI", "JoinEUI", "AppKey", "offset", "delay", "name")
+CALLED = {
+    "deveui": "DevEUI",
+    "joineui": "JoinEUI",
+    "appeui": "JoinEUI",
+    "appkey": "AppKey",
+    "offset": "offset",
+    "rx1offset": "offset",
+    "rx1droffset": "offset",
+    "delay": "delay",
+    "rxdelay": "delay",
+    "rx1delay": "delay",
+    "name": "name",
+    "devicename": "name",
+}
+NEEDED = ("DevEUI", "JoinEUI", "AppKey")
 HEX = re.compile(r"[0-9A-Fa-f]*")
+COMMENT = re.compile(r'^((?:[^"#]|"[^"]*")*)#.*$')
+# the byte order marks of UTF-16, which Excel writes too
+UTF_16 = (b"\xff\xfe", b"\xfe\xff")
+MOST_NAME = 64
 
 
 @dataclass(frozen=True)
@@ -18,6 +39,7 @@ class Row:
     app_key: str
     offset: int
     delay: int
+    name: str = ""
 
     def line(self) -> str:
         """The request."""
@@ -33,9 +55,41 @@ class Fault:
     why: str
 
 
+@dataclass
+class Devices:
+    """What a file has."""
+
+    rows: list[Row] = field(default_factory=list)
+    faults: list[Fault] = field(default_factory=list)
+    # the columns of the head that have no meaning here
+    unused: list[str] = field(default_factory=list)
+
+    @property
+    def names(self) -> dict[str, str]:
+        """The names of devices that have one."""
+        return {row.dev_eui: row.name for row in self.rows if row.name}
+
+    def complaints(self) -> list[str]:
+        """What is wrong with the file."""
+        said = [f"the column {name!a} isn't used" for name in self.unused]
+        return said + [f"line {fault.place}: {fault.why}" for fault in self.faults]
+
+    def add(self, place: int, of: dict[str, str]) -> None:
+        """A line's device."""
+        try:
+            row = device_of(place, of)
+            for other in self.rows:
+                if other.dev_eui == row.dev_eui:
+                    raise ValueError(f"{row.dev_eui} is in line {other.place}, too")
+        except ValueError as why:
+            self.faults.append(Fault(place, str(why)))
+            return
+        self.rows.append(row)
+
+
 def hex_of(name: str, text: str, length: int) -> str:
     """Hex digits, in upper case."""
-    bare = re.sub(r"[-: ]", "", text)
+    bare = re.sub(r"[-: ]", "", text).removeprefix("0x")
     if len(bare) != length or not HEX.fullmatch(bare):
         raise ValueError(f"{name} isn't {length} hex digits")
     return bare.upper()
@@ -43,37 +97,74 @@ def hex_of(name: str, text: str, length: int) -> str:
 
 def number_of(name: str, text: str, least: int, most: int) -> int:
     """A number of this range."""
-    if not re.fullmatch(r"[0-9]{1,3}", text.strip()) or not least <= int(text) <= most:
-        raise ValueError(f"{name} is no number from {least} to {most}")
+    if not re.fullmatch(r"[0-9]{1,3}", text) or not least <= int(text) <= most:
+        raise ValueError(f"the {name} is no number from {least} to {most}")
     return int(text)
 
 
-def device_of(place: int, row: list[str]) -> Row | Fault:
-    """A row's device: offset and delay may be left out, and are 0 and 1 then."""
-    try:
-        if not 3 <= len(row) <= 5:
-            raise ValueError(f"{len(row)} fields, and not 3 to 5")
-        offset, delay, *_ = [*row[3:], *("0", "1")[len(row) - 3 :]]
-        return Row(
-            place,
-            hex_of("DevEUI", row[0], 16),
-            hex_of("JoinEUI", row[1], 16),
-            hex_of("AppKey", row[2], 32),
-            number_of("the offset", offset, 0, 5),
-            number_of("the delay", delay, 1, 15),
-        )
-    except ValueError as why:
-        return Fault(place, str(why))
+def name_of(text: str) -> str:
+    """A device's name."""
+    if len(text) > MOST_NAME or not text.isprintable():
+        raise ValueError(f"the name isn't a text of at most {MOST_NAME} characters")
+    return text
 
 
-def read(file: str) -> list[Row | Fault]:
-    """All lines of a file; the first may name the fields, and # begins a comment."""
-    found: list[Row | Fault] = []
-    with open(file, encoding="utf-8-sig", errors="replace") as text:
+def device_of(place: int, of: dict[str, str]) -> Row:
+    """The device of a line's values by their columns. Offset and delay are 0 and 1 if they are left
+    out."""
+    missing = [name for name in NEEDED if not of.get(name)]
+    if missing:
+        raise ValueError(f"there is no {', '.join(missing)}")
+    return Row(
+        place,
+        hex_of("DevEUI", of["DevEUI"], 16),
+        hex_of("JoinEUI", of["JoinEUI"], 16),
+        hex_of("AppKey", of["AppKey"], 32),
+        number_of("offset", of.get("offset") or "0", 0, 5),
+        number_of("delay", of.get("delay") or "1", 1, 15),
+        name_of(of.get("name") or ""),
+    )
+
+
+def lines_of(file: str) -> Iterator[tuple[int, str]]:
+    """The lines of a file that have something, with their numbers; # begins a comment."""
+    with open(file, "rb") as raw:
+        encoding = "utf-16" if raw.read(2) in UTF_16 else "utf-8-sig"
+    with open(file, encoding=encoding, errors="replace") as text:
         for place, line in enumerate(text, 1):
-            bare = line.partition("#")[0].strip()
-            row = [part.strip().strip('"') for part in re.split("[,;\t]", bare)] if bare else []
-            names = tuple(re.sub(r"[^a-z0-9]", "", name.lower()) for name in row[:3])
-            if row and (found or names != HEAD):
-                found.append(device_of(place, row))
+            bare = COMMENT.sub(r"\1", line.rstrip("\r\n")).strip(" ")
+            if bare:
+                yield place, bare
+
+
+def head_of(line: str, separator: str) -> list[str] | None:
+    """The names of columns in the first line, or None if it has a device."""
+    words = next(csv.reader([line], delimiter=separator, skipinitialspace=True))
+    bare = [re.sub(r"[^a-z0-9]", "", word.lower()) for word in words]
+    if not set(CALLED) & set(bare):
+        return None
+    return [CALLED.get(one) or word.strip() for one, word in zip(bare, words)]
+
+
+def read(file: str) -> Devices:
+    """All devices of a file. Its first line may name the columns, in any order. Each line is read by
+    itself, so that a quote that isn't closed spoils no other line."""
+    found, columns, is_first = Devices(), list(COLUMNS), True
+    for place, line in lines_of(file):
+        separator = max(",;\t", key=line.count)
+        head, is_first = head_of(line, separator) if is_first else None, False
+        if head:
+            # a head may name the first columns alone
+            columns = columns if columns[: len(head)] == head else head
+            found.unused = [name for name in head if name and name not in COLUMNS]
+            continue
+        reader = csv.DictReader(
+            [line], columns, restkey="more", delimiter=separator, skipinitialspace=True
+        )
+        values = next(reader)
+        more = [text for text in values.pop("more", None) or [] if text.strip()]
+        if more:
+            found.faults.append(Fault(place, f"there is more than the {len(columns)} columns"))
+        else:
+            found.add(place, {name: (text or "").strip() for name, text in values.items()})
     return found

@@ -3,20 +3,27 @@ silent, and the options of their commands."""
 
 import argparse
 import asyncio
+import signal
+import time
 from dataclasses import dataclass, field
 from typing import Any, Generic, TypeVar
 
 from bozintar import wire, words
 from bozintar.buckets import Bucket
-from bozintar.counts import COUNTS_HELP, Counts
+from bozintar.counts import COUNTS_HELP, Counts, Metric
 from bozintar.lasting import Link
-from bozintar.words import log
+from bozintar.logs import Seldom, log, warn
+from bozintar.running import on_signals
+
+from . import named
+from .captures import Capture
+from .named import Named
 
 COUNTED = {
     "copies": "frames that were handed to the network",
     "unlinked": "frames that were heard while no link took them",
     "caught_up": "of these, frames that were handed in soon after that",
-    "too_many": "frames beyond 200 a second of a gateway, which weren't handed in",
+    "too_many": "frames beyond 200 a second of a gateway, which weren't read",
     "without_crc": "frames whose CRC was wrong, or that had none",
     "other_modulations": "frames that aren't LoRa of 125 kHz",
     "downlinks": "downlinks sent to gateways",
@@ -25,44 +32,52 @@ COUNTED = {
     "out_of_time": "downlinks for an uplink that isn't known, or of another time",
     "unknown_gateways": "what came of gateways that aren't named",
     "links_silent": "links that were closed since nothing came",
+    "closed_soon": "links that the network closed soon: another client may use the name",
+}
+# numbers of each gateway, by the names of what a gateway has
+OF_GATEWAYS = {
+    "linked": ("gauge", "whether a gateway has a link"),
+    "copies": ("counter", "frames of a gateway that were handed in"),
+    "last_copy_seconds": ("gauge", "when a gateway's last frame came, in Unix time"),
+    "last_pull_seconds": ("gauge", "when a gateway asked last for downlinks, in Unix time"),
 }
 # unknown gateways that are logged; the others are only counted
 MOST_LOGGED = 16
 # links of gateways that the network has at a time
 MOST_LINKED = 64
 LOOK = 1.0
-# frames of a gateway that are handed in: this many a second, and this many at once after a pause.
-# The network gathers the copies of 1,024 frames at a time, in windows of 200 ms, so one gateway
-# without a limit takes the room of all others. A gateway with eight demodulators hears some 140
-# frames a second at most, of 20 bytes with SF7
+# frames of a gateway that are read: this many a second, and this many at once after a pause. The
+# network gathers the copies of 1,024 frames at a time, in windows of 200 ms, so one gateway without
+# a limit takes the room of all others. A gateway with eight demodulators hears some 140 frames a
+# second at most, of 20 bytes with SF7
 RATE, BURST = 200, 400
-# after this many seconds without too many frames of a gateway, the next time is logged again
-QUIET = 60.0
 
 
 @dataclass
 class Gateway:
     """A gateway that is named."""
 
-    eui: str
+    named: Named
     link: Link
     # when something came of it, and what listens to its link from then on
     last: float = 0.0
     work: asyncio.Task | None = None
     bucket: Bucket = field(default_factory=lambda: Bucket(RATE, BURST))
-    # when it heard too much last
-    over: float = -QUIET
+    # frames that were handed in, and when the last one came; and when the gateway asked last for
+    # downlinks, in Unix time
+    copies: int = 0
+    last_copy: float = 0.0
+    last_pull: float = 0.0
 
-    def hand_in(self, heard: wire.Heard, counts: Counts) -> bool:
-        """Hands a frame to the network, now or soon; not if the gateway hears too many."""
-        if not self.bucket.lets(self.last):
-            counts.add("too_many")
-            if self.last >= self.over + QUIET:
-                log(f"{self.link.name} says more than {RATE} frames a second; the rest is dropped")
-            self.over = self.last
-            return False
-        counts.add("copies" if self.link.say_soon(heard.message()) else "unlinked")
-        return True
+    @property
+    def eui(self) -> str:
+        """Its EUI."""
+        return self.named.eui
+
+    @property
+    def linked(self) -> bool:
+        """Whether it has a link."""
+        return self.link.writer is not None
 
 
 G = TypeVar("G", bound=Gateway)
@@ -73,20 +88,44 @@ class Gateways(Generic[G]):
     send."""
 
     kind: type[G]
+    # of the metrics of each gateway, since two bridges may have the same list
+    bridge: str
 
     def __init__(self, given: Any, counts: Counts):
-        self.given, self.counts = given, counts
-        self.gateways = {eui: self.gateway(eui) for eui in given.euis}
+        self.given, self.counts, self.seldom = given, counts, Seldom()
         self.clock = asyncio.get_running_loop().time
+        self.gateways: dict[str, G] = {}
         self.logged: set[str] = set()
-        if len(self.gateways) > MOST_LINKED:
-            named = f"{len(self.gateways)} gateways are named"
-            log(f"{named}, and the network has links of {MOST_LINKED} at a time")
+        self.name(given.named)
+        on_signals((signal.SIGHUP,), self.read_again)
+        counts.more = self.numbers
+        self.capture = Capture(given.capture, given.capture_size) if given.capture else None
 
-    def gateway(self, eui: str) -> G:
-        """A gateway of which nothing came yet."""
-        link = Link(f"gateway {eui}", self.given.network, wire.gateway_greeting(eui))
-        return self.kind(eui, link)
+    def name(self, those: dict[str, Named]) -> None:
+        """Lets these gateways connect, and no others. Those that were named already go on."""
+        for eui in self.gateways.keys() - those.keys():
+            self.close(self.gateways.pop(eui))
+        for eui, one in those.items():
+            if eui in self.gateways:
+                self.gateways[eui].named = one
+            else:
+                link = Link(f"gateway {eui}", self.given.network, wire.gateway_greeting(eui))
+                self.gateways[eui] = self.kind(one, link)
+        self.logged.clear()
+        if len(those) > MOST_LINKED:
+            warn(f"{len(those)} gateways are named; the network has {MOST_LINKED} links at a time")
+
+    def read_again(self) -> None:
+        """Reads the list of gateways again. One with a fault is left as it was."""
+        try:
+            those = named_in(self.given.gateway, self.given.gateways)
+            if not those:
+                raise ValueError("it names no gateway")
+        except (OSError, ValueError) as why:
+            warn(f"the list of gateways isn't read again: {why}")
+            return
+        self.name(those)
+        log(f"the list is read again: {len(those)} gateways are named")
 
     def awake(self, eui: str) -> G | None:
         """The gateway of which something came, with its link; or None if it isn't named."""
@@ -104,7 +143,38 @@ class Gateways(Generic[G]):
         self.counts.add("unknown_gateways")
         if eui not in self.logged and len(self.logged) < MOST_LOGGED:
             self.logged.add(eui)
-            log(f"gateway {eui} isn't named, and is ignored")
+            warn(f"gateway {eui} isn't named, and is ignored")
+
+    def may_read(self, gateway: G, count: int = 1) -> int:
+        """How many of this many frames that a gateway heard are read. The others are counted before
+        anything of them is looked at, since that takes time, too."""
+        most = sum(gateway.bucket.lets(gateway.last) for _ in range(min(count, BURST)))
+        if most < count:
+            self.counts.add("too_many", count - most)
+            text = f"sends more than {RATE} frames a second; the rest is dropped"
+            self.seldom.warn((gateway.eui, "too many"), f"{gateway.link.name} {text}")
+        return most
+
+    def hand_in(self, gateway: G, heard: wire.Heard) -> None:
+        """Hands a frame to the network, now or soon."""
+        if self.capture:
+            self.capture.up(heard)
+        gateway.copies += 1
+        gateway.last_copy = time.time()
+        self.counts.add("copies" if gateway.link.say_soon(heard.message()) else "unlinked")
+
+    def numbers(self) -> list[Metric]:
+        """The numbers of each gateway."""
+        found = []
+        for name, (kind, text) in OF_GATEWAYS.items():
+            metric = Metric(f"pilot_gateway_{name}", kind, text)
+            for eui, gateway in self.gateways.items():
+                number = getattr(gateway, name.removesuffix("_seconds"))
+                # what never came has no time
+                if number or not name.endswith("_seconds"):
+                    metric.add(number, bridge=self.bridge, gateway=eui)
+            found.append(metric)
+        return found
 
     async def listen(self, gateway: G) -> None:
         """Lets a gateway send what the network says."""
@@ -112,7 +182,7 @@ class Gateways(Generic[G]):
             try:
                 self.order(gateway, wire.Downlink.read(content))
             except wire.NoMessage as why:
-                log(f"{gateway.link.name}: {why}")
+                self.seldom.warn((gateway.eui, "no message"), f"{gateway.link.name}: {why}")
 
     def order(self, gateway: G, downlink: wire.Downlink) -> None:
         """Lets a gateway send a downlink."""
@@ -133,13 +203,24 @@ class Gateways(Generic[G]):
             link = gateway.link
             link.catch_up()
             self.counts.add("caught_up", link.caught_up)
-            link.caught_up = 0
+            self.counts.add("closed_soon", link.closed_soon)
+            link.caught_up = link.closed_soon = 0
             if gateway.work and gateway.last < self.clock() - self.given.silent:
-                log(f"{link.name} is silent: its link is closed")
+                warn(f"{link.name} is silent: its link is closed")
                 self.counts.add("links_silent")
-                gateway.work.cancel()
-                gateway.work = None
-                self.sleeps(gateway)
+                self.close(gateway)
+
+    def close(self, gateway: G) -> None:
+        """Closes a gateway's link, if it has one."""
+        if gateway.work:
+            gateway.work.cancel()
+            gateway.work = None
+        self.sleeps(gateway)
+
+
+def named_in(euis: list[str], file: str | None) -> dict[str, Named]:
+    """The gateways of the options --gateway and --gateways."""
+    return {eui: Named(eui) for eui in euis} | (named.read(file) if file else {})
 
 
 def add_words(options: words.Words, power: int, unit: str = "dBm") -> None:
@@ -159,8 +240,8 @@ def add_words(options: words.Words, power: int, unit: str = "dBm") -> None:
         metavar="EUI",
         help="a gateway, 16 hex digits; may be given several times",
     )
-    named = "gateways, an EUI a line; # begins a comment"
-    options.add_argument("--gateways", metavar="FILE", help=named)
+    text = "gateways, an EUI a line; # begins a comment. SIGHUP has the file read again"
+    options.add_argument("--gateways", metavar="FILE", help=text)
     options.add_argument(
         "--silent",
         type=words.between(1, 86400),
@@ -181,14 +262,35 @@ def add_words(options: words.Words, power: int, unit: str = "dBm") -> None:
         metavar="DBM",
         help="the same in RX2, on 869.525 MHz (as --power)",
     )
+    add_capture(options)
     options.add_argument("--counts", metavar="FILE", help=COUNTS_HELP)
+
+
+def add_capture(options: words.Words) -> None:
+    """The options about a capture."""
+    options.add_argument(
+        "--capture",
+        metavar="FILE",
+        help="writes each frame that is handed in, and each that a gateway is to send, to a file "
+        "for Wireshark (pcap with LoRaTap); what was in it before goes to FILE.old",
+    )
+    options.add_argument(
+        "--capture-size",
+        type=words.between(1, 10_000),
+        default=16,
+        metavar="MB",
+        help="how large these two files may be, each, 1 to 10000 (16)",
+    )
 
 
 def read_words(options: words.Words) -> argparse.Namespace:
     """What the options say. At least one gateway is named, since a list keeps strangers out."""
     given = options.parse_args()
-    given.euis = given.gateway + (words.euis_in(given.gateways) if given.gateways else [])
-    if not given.euis:
+    try:
+        given.named = named_in(given.gateway, given.gateways)
+    except ValueError as why:
+        words.stop(str(why), 2)
+    if not given.named:
         options.error("no gateway is named, by --gateway or --gateways")
     given.rx2_power = given.power if given.rx2_power is None else given.rx2_power
     return given

@@ -139,5 +139,7 @@ def error_in(body: bytes) -> str:
     if not bare(body):
         return "NONE"
     said = fields.table(fields.parsed(bare(body))).get("txpk_ack") or {}
-    error = fields.table(said).get("error", "NONE")
-    return error if isinstance(error, str) and error else "NONE"
+    error = fields.table(said).get("error")
+    if error is not None and not isinstance(error, str):
+        raise Wrong("error is no text")
+    return error or "NONE"

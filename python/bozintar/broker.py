@@ -12,17 +12,24 @@ from functools import partial
 from typing import Any
 
 from . import mqtt
+from .logs import Seldom, log, warn
 from .running import Handover
-from .words import Address, log, stop
+from .words import Address, stop
 
 KEEPALIVE = 30
 LONGEST_PAUSE = 30
 # how long until a broker that didn't take the certificate is tried again, in seconds
 REFUSED_PAUSE = 5
-# messages of the broker that wait to be read; more are dropped
-MOST_READ = 10_000
+# messages of the broker that wait to be read, and their bytes; more are dropped
+MOST_READ, MOST_BYTES = 10_000, 8 * 2**20
+# the longest payload that is read, as in pilot/mosquitto.conf: JSON takes up to thirty times its
+# size in memory
+LONGEST = 65_536
 # how long the broker may take to hear a goodbye, in seconds
 GOODBYE = 1.0
+# a connection that the broker closes in this time, in seconds, may be another client's by now
+SOON = 10.0
+BROKER_HELP = "whether the broker is connected to"
 # a broker's answer for a topic that may not be read, and above
 REFUSED = 0x80
 
@@ -90,7 +97,14 @@ class Broker:
         self.has_room.set()
         self.waiting, self.overrun, self.counted = 0, 0, 0
         self.taken, self.came = Handover(self.take_taken), Handover(self.read)
+        # the bytes of what came and isn't read: `came_bytes` grows in the library's thread, and
+        # `read_bytes` in the event loop's
+        self.came_bytes, self.read_bytes = 0, 0
         self.is_gone, self.fault = threading.Event(), ""
+        # a connection that comes and goes is logged at most once a minute; its return, if its end
+        # was
+        self.seldom, self.is_logged, self.connected = Seldom(), True, 0.0
+        self.closed_soon, self.has_ended = 0, False
         self.is_gone.set()
         self.client = mqtt.client(name, is_kept)
         self.client.max_inflight_messages_set(1000)
@@ -127,6 +141,7 @@ class Broker:
     def end(self) -> None:
         """Disconnects, if the broker is there. It doesn't wait for the library's thread, which
         would stay until a broker that hangs has all messages."""
+        self.has_ended = True
         if self.is_there():
             self.client.disconnect()
             self.is_gone.wait(GOODBYE)
@@ -156,6 +171,11 @@ class Broker:
         before, self.counted = self.counted, self.overrun
         return self.counted - before
 
+    def closed_since(self) -> int:
+        """How many connections the broker closed soon since the last call."""
+        found, self.closed_soon = self.closed_soon, 0
+        return found
+
     def take_taken(self, found: list) -> None:
         """The broker has some of the messages."""
         self.waiting -= len(found)
@@ -163,8 +183,12 @@ class Broker:
             self.has_room.set()
 
     def read(self, found: list[tuple[str, bytes]]) -> None:
-        """Reads messages."""
+        """Reads messages. What comes while the program ends would begin new work."""
+        if self.has_ended:
+            self.overrun += len(found)
+            return
         for topic, payload in found:
+            self.read_bytes += len(topic) + len(payload)
             self.take(topic, payload)
 
     # what follows is called in the library's thread
@@ -184,11 +208,13 @@ class Broker:
     def on_connect(self, client: Any, _data: Any, _flags: Any, code: int) -> None:
         """Asks for the topics, again after each connection."""
         if code:
-            log(f"the broker refuses the connection: {mqtt.paho.connack_string(code)}")
+            warn(f"the broker refuses the connection: {mqtt.paho.connack_string(code)}")
             return
         self.is_gone.clear()
-        self.fault = ""
-        log(f"connected to the broker at {self.access.address}")
+        self.fault, self.connected = "", time.monotonic()
+        if self.is_logged:
+            log(f"connected to the broker at {self.access.address}")
+        self.is_logged = False
         if self.topics:
             client.subscribe([(topic, 1) for topic in self.topics])
 
@@ -199,20 +225,27 @@ class Broker:
     def miss(self, why: str) -> None:
         """Logs why there is no connection, each reason once."""
         if why != self.fault:
-            log(f"no broker at {self.access.address}: {why}")
+            warn(f"no broker at {self.access.address}: {why}")
+            self.is_logged = True
         self.fault = why
 
     def on_subscribe(self, _client: Any, _data: Any, _number: int, granted: Any) -> None:
         """A topic that may not be read is logged, since nothing will come of it. (mosquitto grants
         all topics, and passes on what its list allows.)"""
         if any(code >= REFUSED for code in granted):
-            log("the broker refuses topics: whose certificate is it?")
+            warn("the broker refuses topics: whose certificate is it?")
 
     def on_disconnect(self, _client: Any, _data: Any, code: int) -> None:
         """The library connects again by itself."""
+        was_there = not self.is_gone.is_set()
         self.is_gone.set()
-        if code:
-            log(f"no broker at {self.access.address}: {mqtt.paho.error_string(code)}")
+        if not code:
+            return
+        text = f"no broker at {self.access.address}: {mqtt.paho.error_string(code)}"
+        if was_there and time.monotonic() < self.connected + SOON:
+            self.closed_soon += 1
+            text += " Another client may use this client's name"
+        self.is_logged |= self.seldom.warn(text, text)
 
     def on_message(self, _client: Any, _data: Any, message: Any) -> None:
         """A message, which is read in the event loop. A retained one is of the past."""
@@ -220,7 +253,15 @@ class Broker:
             topic = message.topic
         except UnicodeDecodeError:
             topic = ""  # no text, which would end the library's thread
-        if not topic or message.retain or len(self.came.waiting) >= MOST_READ:
+        size = len(topic) + len(message.payload)
+        is_usable = topic and not message.retain and len(message.payload) <= LONGEST
+        if not is_usable or self.is_full(size):
             self.overrun += 1
-        else:
-            self.came.give((topic, message.payload))
+            return
+        self.came_bytes += size
+        self.came.give((topic, message.payload))
+
+    def is_full(self, more: int) -> bool:
+        """Whether there is no room for one more message of this many bytes."""
+        waiting = self.came_bytes - self.read_bytes + more
+        return len(self.came.waiting) >= MOST_READ or waiting > MOST_BYTES

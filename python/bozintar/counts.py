@@ -3,11 +3,13 @@ Debian's python3-prometheus-client."""
 
 import asyncio
 import os
-from collections.abc import Iterable
+import tempfile
+from collections.abc import Callable, Iterable
 from typing import Any
 
 from .debian import library
-from .words import log, stop
+from .logs import warn
+from .words import stop
 
 prometheus = library("prometheus_client")
 EVERY = 10.0
@@ -60,6 +62,8 @@ class Counts:
     def __init__(self, prefix: str, helps: dict[str, str], file: str | None = None, **labels: str):
         self.prefix, self.helps, self.file, self.labels = prefix, helps, file, labels
         self.values = dict.fromkeys(helps, 0)
+        # what else is written, as it is at that moment
+        self.more: Callable[[], list[Metric]] = list
         if file:
             need_it()
 
@@ -73,7 +77,13 @@ class Counts:
         for name, value in self.values.items():
             metrics.append(Metric(f"{self.prefix}_{name}", "counter", self.helps[name]))
             metrics[-1].add(value, **self.labels)
-        return text_of(metrics)
+        return text_of([*metrics, *self.more()])
+
+    def gauge(self, name: str, text: str, number: float) -> Metric:
+        """A number of this program that goes up and down."""
+        metric = Metric(f"{self.prefix}_{name}", "gauge", text)
+        metric.add(number, **self.labels)
+        return metric
 
     def summary(self) -> str:
         """Those that aren't 0, in a line."""
@@ -94,19 +104,24 @@ class Counts:
                 is_well = True
             except OSError as why:
                 if is_well:
-                    log(f"the counts can't be written to {self.file}: {why.strerror}")
+                    warn(f"the counts can't be written to {self.file}: {why.strerror}")
                 is_well = False
             await asyncio.sleep(EVERY)
 
 
-def replace(file: str, text: str) -> None:
-    """Puts a text in a file's place at once, so that nobody reads half of it."""
-    part = f"{file}.{os.getpid()}.part"
+def replace(file: str, content: str | bytes, moment: int | None = None) -> None:
+    """Puts a text in a file's place at once, so that nobody reads half of it. All may read it, as
+    node_exporter does. `moment` is when it was written, in nanoseconds; now, by itself."""
+    folder, name = os.path.split(os.path.abspath(file))
+    # a new file whose name nobody knows: a link that others have put there isn't followed
+    number, part = tempfile.mkstemp(".part", f"{name}.", folder)
     try:
-        with open(part, "w", encoding="utf-8") as out:
-            out.write(text)
+        with os.fdopen(number, "wb") as out:
+            out.write(content.encode() if isinstance(content, str) else content)
+            os.fchmod(number, 0o644)
+        if moment is not None:
+            os.utime(part, ns=(moment, moment))
         os.replace(part, file)
     except OSError:
-        if os.path.exists(part):
-            os.unlink(part)
+        os.unlink(part)
         raise

@@ -64,9 +64,11 @@ def as_root(*said: str) -> None:
         if not shutil.which("sudo"):
             stop(f"it isn't root, and there is no sudo; as root: {' '.join(said)}")
         whole = ["sudo", *said]
-    how = {**os.environ, "DEBIAN_FRONTEND": "noninteractive"}
+    # sudo may drop the environment: without an input, too, packages ask nothing
+    how: dict[str, Any] = {"stdin": subprocess.DEVNULL, "capture_output": True, "text": True}
+    how["env"] = {**os.environ, "DEBIAN_FRONTEND": "noninteractive"}
     for pause in (*PAUSES, None):
-        ended = subprocess.run(whole, env=how, capture_output=True, text=True, check=False)
+        ended = subprocess.run(whole, check=False, **how)
         if not ended.returncode:
             return
         if pause:

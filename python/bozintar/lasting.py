@@ -8,11 +8,14 @@ from collections.abc import AsyncIterator
 
 from . import wire
 from .links import refuse_itself
+from .logs import Seldom, log
 from .lookups import connected
-from .words import Address, log
+from .running import within
+from .words import Address
 
 # seconds between two tries: the first, and the longest, to which they double
 PAUSES = (1.0, 30.0)
+CLOSED = "the network has closed it"
 # after how long a link counts as well again, and how long a connection may take, in seconds
 LASTING, PATIENCE = 10.0, 5.0
 # how many bytes may wait for a network that doesn't read: what is heard is of no use later
@@ -37,9 +40,13 @@ class Link:
         self.name, self.address, self.greeting, self.pauses = name, address, greeting, pauses
         self.writer: asyncio.StreamWriter | None = None
         self.opened, self.is_ending = 0, False
+        # a link that comes and goes is logged at most once a minute; its return, if its end was
+        self.seldom, self.is_logged = Seldom(), True
         # what is sent as soon as a link takes it, with when it was meant to; and how much was
         self.early: deque[tuple[float, bytes]] = deque(maxlen=MOST_EARLY)
         self.caught_up = 0
+        # links that the network closed soon, as it does if another client takes the name
+        self.closed_soon = 0
 
     def say(self, message: bytes) -> bool:
         """Sends a message; whether there was a link that takes it."""
@@ -90,32 +97,38 @@ class Link:
         """What comes over all links of this name, one after the other, until one of them was ended
         well."""
         (first, longest), clock = self.pauses, time.monotonic
-        pause = first
+        pause, self.is_logged = first, True
         while True:
             begun = clock()
             try:
                 async for content in self.of_one():
                     yield content
-                why = "the network has closed it"
+                why = CLOSED
             except (OSError, asyncio.TimeoutError, wire.NoMessage) as fault:
                 why = str(fault) or "nothing answers"
             if self.is_ending:
                 return
             lasted = clock() - begun > LASTING
+            if why == CLOSED and not lasted:
+                self.closed_soon += 1
+                why += "; another client may use this name"
             pause = first if lasted else pause
-            log(f"{self.name}: no link to {self.address}, again in {pause:.1f} s: {why}")
+            text = f"{self.name}: no link to {self.address}, again in {pause:.1f} s: {why}"
+            self.is_logged |= self.seldom.warn(why, text)
             await asyncio.sleep(pause)
             pause = min(2 * pause, longest)
 
     async def of_one(self) -> AsyncIterator[bytes]:
         """What comes over one link."""
-        connection = await asyncio.wait_for(connected(self.address), PATIENCE)
+        connection = await within(PATIENCE, connected(self.address))
         reader, writer = await asyncio.open_connection(sock=connection)
         try:
             self.prepare(writer.get_extra_info("socket"))
             writer.write(self.greeting)
             self.writer, self.opened = writer, self.opened + 1
-            log(f"{self.name}: linked to {self.address}")
+            if self.is_logged:
+                log(f"{self.name}: linked to {self.address}")
+            self.is_logged = False
             self.catch_up()
             frames = wire.Frames()
             while piece := await reader.read(65536):

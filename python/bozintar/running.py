@@ -5,7 +5,9 @@ import asyncio
 import signal
 import threading
 from collections.abc import Callable, Coroutine, Iterable
-from typing import Any
+from typing import Any, TypeVar
+
+T = TypeVar("T")
 
 
 def on_signals(numbers: Iterable[int], what: Callable[[], Any]) -> None:
@@ -31,6 +33,19 @@ async def until_told(work: Coroutine) -> None:
         await task
     except asyncio.CancelledError:
         pass
+
+
+async def within(seconds: float, work: Coroutine[Any, Any, T]) -> T:
+    """The result of a coroutine, or TimeoutError if it takes longer. asyncio.wait_for loses a
+    cancellation that comes as the work ends, before Python 3.12, so that a program goes on."""
+    task = asyncio.ensure_future(work)
+    try:
+        await asyncio.wait({task}, timeout=seconds)
+        if not task.done():
+            raise asyncio.TimeoutError
+        return task.result()
+    finally:
+        task.cancel()
 
 
 class Handover:

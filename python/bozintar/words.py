@@ -1,15 +1,16 @@
-"""The words of a command: its options and its help, what it prints, and how it ends."""
+"""The words of a command: its options and its help, and how it ends."""
 
 import argparse
 import os
 import re
 import signal
 import sys
-import time
 from collections.abc import Callable, Iterable
 from dataclasses import dataclass
 from types import FrameType
 from typing import Any, NoReturn
+
+from .logs import ERROR, complain
 
 EUI = re.compile(r"[0-9A-Fa-f]{16}")
 
@@ -131,32 +132,9 @@ def folder(text: str) -> str:
     return os.path.abspath(text)
 
 
-def euis_in(file: str) -> list[str]:
-    """The EUIs of a file, one a line; # begins a comment."""
-    found = []
-    with open(file, encoding="utf-8-sig", errors="replace") as lines:
-        for place, line in enumerate(lines, 1):
-            text = line.partition("#")[0].strip()
-            if text and not EUI.fullmatch(text):
-                stop(f"{file}, line {place}: {text[:40]} is no EUI of 16 hex digits", 2)
-            found += [text.upper()] if text else []
-    return found
-
-
-def log(text: str) -> None:
-    """Prints a line with the time. If nobody reads it (a closed pipe, a full disk), the line is
-    lost, and nothing else: so nothing of it is buffered."""
-    line = f"{time.strftime('%H:%M:%S')}  {text}\n"
-    try:
-        if sys.stdout:
-            os.write(sys.stdout.fileno(), line.encode(sys.stdout.encoding, "backslashreplace"))
-    except OSError:
-        pass
-
-
 def stop(why: str, status: int = 1) -> NoReturn:
     """Ends with a line on standard error."""
-    print(f"{name()}: {why}", file=sys.stderr)
+    complain(f"{name()}: {why}", ERROR)
     sys.exit(status)
 
 

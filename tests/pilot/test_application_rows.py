@@ -2,14 +2,14 @@
 its format: ChirpStack's events and commands (version 4), docs/FORMATS.md."""
 
 import tempfile
-
+from pathlib import Path
 from typing import Any
 
 import pytest
 from bozintar.fields import Wrong
 from bridges import devices
-from bridges.application_events import Item, Translator, refusal, status
-from bridges.names import Names
+from bridges.application_events import Translator, command_in, refusal, status
+from bridges.names import IN_USE, Names
 
 from .rows import outcome, table
 
@@ -71,6 +71,7 @@ COMMANDS: tuple = (
     ('{"devEui":"%s","confirmed":true,"fPort":10,"data":"qrs="}', "queue %s 8 10 c AABB"),
     ('{"fPort":10,"data":"qrs"}', "queue %s 8 10 u AABB"),
     ('{"fPort":255,"object":{},"flushQueue":false}', "queue %s 8 255 u -"),
+    ('{"fPort":255,"flushQueue":1}', Wrong),
     ('{"fPort":10,"data":"","id":"x"}', "queue %s 8 10 u -"),
     ('{"devEui":"0202020202020202","fPort":10,"data":"qg=="}', Wrong),
     ('{"fPort":256,"data":"qg=="}', Wrong),
@@ -81,6 +82,18 @@ COMMANDS: tuple = (
     ('{"fPort":1,"confirmed":1}', Wrong),
     ('{"fPort":1,"id":7}', Wrong),
     ('{"fPort":1,"devEui":7}', Wrong),
+)
+
+# a command `mac`, and the line that is asked: LinkADRReq, DutyCycleReq, DevStatusReq
+MAC_COMMANDS: tuple = (
+    ('{"commands":"06","id":"x"}', "mac %s 06"),
+    ('{"devEui":"%s","commands":"0300ff01010406"}', "mac %s 0300FF01010406"),
+    ('{"commands":""}', Wrong),
+    ('{"commands":"6"}', Wrong),
+    ('{"commands":"06 06"}', Wrong),
+    ('{"commands":"%s"}' % ("06" * 129), Wrong),
+    ('{"id":"x"}', Wrong),
+    ('{"commands":6}', Wrong),
 )
 
 KEY = "2B7E151628AED2A6ABF7158809CF4F3C"
@@ -101,11 +114,33 @@ FILES: tuple = (
         [f"{DEVICE} 0102030405060708 {KEY} 0 1", "line 2: DevEUI isn't 16 hex digits"],
     ),
     ("# nothing\n\n", []),
+    (
+        f'name;AppKey;JoinEUI;DevEUI\n"Roof; #5, north";{KEY};0102030405060708;{DEVICE}\n',
+        [f"{DEVICE} 0102030405060708 {KEY} 0 1 Roof; #5, north"],
+    ),
+    (
+        f"{DEVICE},0102030405060708,0x{KEY},0,1,Dach S\u00fcd,\n",
+        [f"{DEVICE} 0102030405060708 {KEY} 0 1 Dach S\u00fcd"],
+    ),
+    (
+        f"DevEUI,JoinEUI,AppKey,place\n{DEVICE},0102030405060708,{KEY},roof\n",
+        [f"{DEVICE} 0102030405060708 {KEY} 0 1", "the column 'place' isn't used"],
+    ),
+    # a quote that isn't closed spoils its own line alone
+    (
+        f'"{DEVICE},0102030405060708,{KEY}\n{DEVICE},0102030405060708,{KEY}\n',
+        [f"{DEVICE} 0102030405060708 {KEY} 0 1", "line 1: there is no JoinEUI, AppKey"],
+    ),
+    (
+        f"{DEVICE},0102030405060708,{KEY}\n\n{DEVICE},0102030405060709,{KEY}\n",
+        [f"{DEVICE} 0102030405060708 {KEY} 0 1", f"line 3: {DEVICE} is in line 1, too"],
+    ),
+    (f"{DEVICE},0102030405060708,{KEY},0,1,x,y", ["line 1: there is more than the 6 columns"]),
     ("\0,\0,\0", ["line 1: DevEUI isn't 16 hex digits"]),
     (f"{DEVICE},0102030405060708,{KEY}0", ["line 1: AppKey isn't 32 hex digits"]),
     (f"{DEVICE},0102030405060708,{KEY},6", ["line 1: the offset is no number from 0 to 5"]),
     (f"{DEVICE},0102030405060708,{KEY},0,0", ["line 1: the delay is no number from 1 to 15"]),
-    (f"\n{DEVICE}", ["line 2: 1 fields, and not 3 to 5"]),
+    (f"\n{DEVICE}", ["line 2: there is no JoinEUI, AppKey"]),
 )
 
 # a line that refuses, and its code
@@ -114,35 +149,40 @@ REFUSED += ((f"refused 12 {LATER}", "QUEUE_FULL"), ("refused 1 2", "REFUSED_1"))
 REFUSED += tuple((line, "REFUSED") for line in ("refused", "refused ", "refused x", "refused x 12"))
 
 
+def named(device: str, tag: int) -> str | None:
+    """The id of an item."""
+    return "3ac7e3c4" if (device, tag) == (DEVICE, 9) else None
+
+
 def translated(line: str) -> tuple[str, dict]:
     """The kind of a line's event, and what it says besides whose it is and when."""
-    event = Translator(3, {(DEVICE, 9): "3ac7e3c4"}).event(line, TIME)
+    event = Translator(3, named).event(line, TIME)
     if (event.body.pop("time"), event.body.pop("deviceInfo")) != (TIME, INFO):
         return "another device", {}
     return event.kind, event.body
 
 
-def asked(text: str) -> str:
+def asked(text: str, kind: str = "down") -> str:
     """The request of a command."""
-    return Item.read(DEVICE, text.encode()).line(8)
+    topic = f"application/3/device/{DEVICE.lower()}/command/{kind}"
+    return command_in(topic, 3, text.encode()).line(8)
 
 
-def read(text: str) -> list[str]:
-    """What is read of a file of devices."""
+def read(text: str, encoding: str = "utf-8") -> list[str]:
+    """What is read of a file of devices: requests with names, and what is wrong."""
     with tempfile.NamedTemporaryFile() as file:
-        file.write(text.encode())
+        file.write(text.encode(encoding))
         file.flush()
         found = devices.read(file.name)
-    lines = [row for row in found if isinstance(row, devices.Row)]
-    faults = [f"line {row.place}: {row.why}" for row in found if isinstance(row, devices.Fault)]
-    return [row.line().removeprefix("provision ") for row in lines] + faults
+    lines = [f"{row.line().removeprefix('provision ')} {row.name}".strip() for row in found.rows]
+    return lines + found.complaints()
 
 
 @pytest.mark.parametrize("more", ("", f" {LATER}"), ids=("today", "later"))
 def test_event_up(more: str) -> None:
     """The event of a reading. Its identifier is the same if it comes again."""
     line = f"up {DEVICE} 5 10 1 AA 2 0016C001F153A14C 867100000 1 42 -36{more}"
-    event, again = (Translator(3, {}).event(line, moment) for moment in (TIME, "later"))
+    event, again = (Translator(3, named).event(line, moment) for moment in (TIME, "later"))
     identifier = event.body.pop("deduplicationId")
     assert (event.kind, event.body) == ("up", UP)
     assert again.body["deduplicationId"] == identifier
@@ -156,7 +196,7 @@ MARKS = (f"{DEVICE} 5 10", f"{DEVICE[:-1]}2 5 10", f"{DEVICE} 6 10", f"{DEVICE} 
 def test_identifiers_of_readings() -> None:
     """Each reading has an identifier of its own."""
     lines = [f"up {mark} 1 AA 2 0016C001F153A14C 867100000 1 42 -36" for mark in MARKS]
-    events = [Translator(3, {}).event(line, TIME) for line in lines]
+    events = [Translator(3, named).event(line, TIME) for line in lines]
     assert len({event.body["deduplicationId"] for event in events}) == len(MARKS)
 
 
@@ -199,6 +239,34 @@ def test_command_down(text: str, due: Any) -> None:
     assert str(outcome(asked, text)) == due
 
 
+@table("text, due", MAC_COMMANDS)
+def test_command_mac(text: str, due: Any) -> None:
+    """What is asked for a command with MAC commands."""
+    text, due = (word.replace("%s", DEVICE) for word in (text, str(due)))
+    assert str(outcome(asked, text, "mac")) == due
+
+
+def test_ids_after_a_restart(folder: Path) -> None:
+    """Ids are known to the next run: of an item that waits; of one that the device acknowledged,
+    whose id is free; of one without acknowledgement, whose id is free a minute later; and of one
+    without an answer, whose id is free at once."""
+    now, file = 1e9, str(folder / "ids.db")
+    names = Names(file, lambda: now)
+    tags = {text: names.add(DEVICE, text) for text in ("waits", "done", "sent", "asked", "7")}
+    for text in ("waits", "done"):
+        names.hold(DEVICE, tags[text])
+    names.free(DEVICE, tags["done"])
+    names.free(DEVICE, tags["sent"], IN_USE)
+    names.forget(DEVICE, 7)
+    assert [names.is_in_use(DEVICE, text) for text in tags] == [True, False, True, True, False]
+    later = Names(file, lambda: now)
+    assert [later.text(DEVICE, tag) for tag in tags.values()] == [*list(tags)[:4], None]
+    assert [later.is_in_use(DEVICE, text) for text in tags] == [True, False, True, False, False]
+    now += IN_USE
+    assert not later.is_in_use(DEVICE, "sent") and later.is_in_use(DEVICE, "waits")
+    assert not later.is_in_use(DEVICE[::-1], "waits"), "of another device"
+
+
 @table("line, code", REFUSED)
 def test_refusal(line: str, code: str) -> None:
     """The code of what the network refuses."""
@@ -209,3 +277,17 @@ def test_refusal(line: str, code: str) -> None:
 def test_devices(text: str, due: Any) -> None:
     """What is read of a file of devices."""
     assert read(text) == due
+
+
+def test_devices_of_a_table_program() -> None:
+    """Excel's "Unicode text" is UTF-16 with tabs."""
+    text = f"DevEUI\tJoinEUI\tAppKey\tName\r\n{DEVICE}\t0102030405060708\t{KEY}\tDach\r\n"
+    assert read(text, "utf-16") == [f"{DEVICE} 0102030405060708 {KEY} 0 1 Dach"]
+
+
+def test_name_of_a_device() -> None:
+    """A device's name is in its events, as ChirpStack has it."""
+    translator = Translator(3, named)
+    translator.devices = {DEVICE: "roof"}
+    info = translator.event(f"acked {DEVICE} 5", TIME).body["deviceInfo"]
+    assert info == {**INFO, "deviceName": "roof"}

@@ -3,6 +3,7 @@ at its end, and what a gateway's bridge does if something around it fails."""
 
 import json
 import signal
+import socket
 import subprocess
 import sys
 import time
@@ -42,8 +43,7 @@ def bridge(parts: Parts, network: Network) -> Iterator[Bridge]:
 
 
 def test_ids_of_two_devices(bridge: Bridge) -> None:
-    """Items of two devices under one id: a number is the tag of both. One that comes again isn't
-    asked for."""
+    """Items of two devices under one id: a number is the tag of both."""
     for text in ("41", "x"):
         tags = [bridge.queued(device, text) for device in (FIRST, SECOND)]
         assert (tags == ["41", "41"]) == (text == "41"), f"tags of {text}"
@@ -51,9 +51,86 @@ def test_ids_of_two_devices(bridge: Bridge) -> None:
     for device in (FIRST, SECOND):
         came = [body["queueItemId"] for body in bridge.events("ack", device, 2)]
         assert came == ["41", "x"], f"what {device} acknowledged"
-    for text in ("x", "42"):
-        bridge.dashboard.down(FIRST, fPort=7, data="AA==", id=text)
-    assert bridge.link.asked()[2] == "42", "the tag of what is asked next"
+
+
+@pytest.mark.parametrize("report", ("acked", "lost"))
+@pytest.mark.parametrize("text", ("42", "x"))
+def test_id_that_comes_again(bridge: Bridge, text: str, report: str) -> None:
+    """An id that is in use isn't asked for again, which an event says; it is once the device has
+    acknowledged the item, or hasn't."""
+    ask = lambda: bridge.dashboard.down(FIRST, fPort=7, data="AA==", id=text, confirmed=True)
+    ask()
+    tag = bridge.link.asked()[2]
+    bridge.link.tell(f"queued {FIRST} {tag}")
+    ask()
+    log = bridge.events("log")[0]
+    assert (log["code"], log["context"]["queue_item_id"]) == ("ID_IN_USE", text)
+    bridge.link.tell(f"{report} {FIRST} {tag}")
+    assert bridge.events("ack")[0]["queueItemId"] == text
+    ask()
+    assert bridge.link.asked()[:2] == ["queue", FIRST], "what is asked next"
+
+
+def test_queue_that_cant_be_flushed(bridge: Bridge) -> None:
+    """A command that asks for the queue to be flushed isn't queued, which an event says."""
+    bridge.dashboard.down(FIRST, fPort=7, data="AA==", id="x", flushQueue=True)
+    log = bridge.events("log")[0]
+    assert (log["code"], log["context"]["queue_item_id"]) == ("FLUSH_QUEUE", "x")
+    bridge.dashboard.down(FIRST, fPort=7, data="AA==", id="x", flushQueue=False)
+    assert bridge.link.asked()[:2] == ["queue", FIRST]
+
+
+def test_name_of_another_client(bridge: Bridge) -> None:
+    """A link that the network closes soon may have lost its name to another client: this is logged
+    once, and counted."""
+    for _ in range(3):
+        bridge.link.close()
+        bridge.link = bridge.network.link()
+    assert bridge.part.said().count("another client may use this name") == 1
+    assert bridge.part.end() == 0
+    assert counts_in(bridge.file)["applications_mqtt_closed_soon"] >= 2
+
+
+def test_return_of_a_link(bridge: Bridge) -> None:
+    """A network that is away for some tries is logged once, and so is its return."""
+    at = bridge.network.listener.getsockname()
+    bridge.network.listener.close()
+    bridge.link.close()
+    time.sleep(2.0)
+    before = len(bridge.part.said())
+    bridge.network.listener = socket.create_server(at)
+    bridge.link = bridge.network.link()
+    await_that("its return is logged", lambda: "linked to" in bridge.part.said()[before:])
+
+
+def test_mac_commands(bridge: Bridge) -> None:
+    """MAC commands are queued, or refused, and an event says which."""
+    topic = f"application/3/device/{FIRST.lower()}/command/mac"
+    for answer in (f"macqueued {FIRST} 06", "refused 13"):
+        bridge.dashboard.say(topic, b'{"commands":"06","id":"%s"}' % answer[:3].encode())
+        assert bridge.link.asked() == ["mac", FIRST, "06"]
+        bridge.link.tell(answer)
+    queued = bridge.events("macqueued")[0]
+    assert (queued["queueItemId"], queued["commands"]) == ("mac", "06")
+    log = bridge.events("log")[0]
+    assert (log["code"], log["context"]["queue_item_id"]) == ("MAC_QUEUE_FULL", "ref")
+
+
+def test_ids_over_a_kill(parts: Parts, network: Network) -> None:
+    """A bridge that is killed knows the ids of commands afterwards, if it keeps them in a file."""
+    bridge = Bridge(parts, network, "--ids", parts.file("ids.db"))
+    with bridge.dashboard:
+        bridge.dashboard.down(FIRST, fPort=7, data="AA==", id="uuid-abc", confirmed=True)
+        tag = bridge.link.asked()[2]
+        bridge.link.tell(f"queued {FIRST} {tag}")
+        bridge.events("queued")
+        bridge.part.kill()
+        bridge.link.close()
+        bridge.link = bridge.start()
+        bridge.dashboard.down(FIRST, fPort=7, data="AA==", id="uuid-abc", confirmed=True)
+        assert bridge.events("log")[0]["code"] == "ID_IN_USE"
+        bridge.link.tell(f"acked {FIRST} {tag}")
+        assert bridge.events("ack")[0]["queueItemId"] == "uuid-abc"
 
 
 def test_labels_of_counts(bridge: Bridge) -> None:

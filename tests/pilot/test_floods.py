@@ -2,6 +2,8 @@
 the network gets what one gateway may say, and all of the other one."""
 
 import json
+import socket
+import threading
 import time
 from dataclasses import dataclass, field
 
@@ -33,6 +35,10 @@ FRAMES = (
 DATAGRAMS, EACH = 20, 100
 SENT = DATAGRAMS * EACH
 NAMED = [word for eui in GATEWAYS[:2] for word in ("--gateway", eui)]
+# a flood of a gateway's EUI: bytes a second, in datagrams of this many frames; what another
+# gateway hears meanwhile: frames, and the seconds between two of them; and how often it is tried
+BYTES_A_SECOND, FRAMES_EACH = 2_500_000, 300
+OTHERS, PAUSE, TRIES = 200, 0.01, 8
 
 
 def test_bucket() -> None:
@@ -68,15 +74,23 @@ class Flood:
     part: Process
     links: list[End] = field(default_factory=list)
     begun: float = 0.0
+    # frames of the other gateway that were read already
+    read: list[bytes] = field(default_factory=list)
+
+    def await_last(self) -> None:
+        """Waits for the last frame of the other gateway, after which nothing of the flood comes."""
+        while b"last" not in self.read:
+            self.read.append(payload_of(self.links[1].hears(60) or b""))
 
     def compare(self, counts: dict, wrong: str) -> None:
         """Ends the bridge, and compares what came of both gateways, and what was counted and
         printed."""
         seconds = time.monotonic() - self.begun
         told = [line.partition("  ")[2] for line in self.part.said().splitlines()]
-        due = f"gateway {GATEWAYS[0]} says more than {RATE} frames a second; the rest is dropped"
+        due = f"gateway {GATEWAYS[0]} sends more than {RATE} frames a second; the rest is dropped"
         assert [line for line in told if "dropped" in line] == [due]
         first, second = map(came_on, self.links)
+        second = self.read + second
         most = BURST + RATE * seconds + 1
         assert BURST <= len(first) <= most, f"frames of {SENT} in {seconds:.1f} s"
         assert first[:BURST] == [b"%04d" % number for number in range(BURST)], "the first ones"
@@ -110,6 +124,62 @@ def test_flood_by_udp(parts: Parts, network: Network) -> None:
     flood.compare(counted(file, "gateways_udp_"), "wrong_datagrams")
 
 
+class Flooder:
+    """What sends datagrams to a bridge under the EUI of a gateway, this many bytes a second, until
+    it is ended."""
+
+    def __init__(self, port: int) -> None:
+        head = b"\x02\0\1\0" + bytes.fromhex(GATEWAYS[0])
+        heard = [rxpk(number, b"%08d" % number, 7) for number in range(FRAMES_EACH)]
+        self.data, self.at = head + json.dumps({"rxpk": heard}).encode(), (HOST, port)
+        self.is_over = False
+        self.thread = threading.Thread(target=self.work)
+
+    def work(self) -> None:
+        """Sends datagrams."""
+        begun, sent = time.monotonic(), 0
+        with socket.socket(socket.AF_INET, socket.SOCK_DGRAM) as own:
+            while not self.is_over:
+                sent += own.sendto(self.data, self.at)
+                time.sleep(max(0.0, begun + sent / BYTES_A_SECOND - time.monotonic()))
+
+    def __enter__(self) -> "Flooder":
+        self.thread.start()
+        return self
+
+    def __exit__(self, *_: object) -> None:
+        self.is_over = True
+        self.thread.join()
+
+
+def beside_a_flood(parts: Parts, network: Network, name: str) -> int:
+    """How many of a gateway's frames come out beside a flood."""
+    words = ("--network", network.at, "--udp", f"{HOST}:{parts.udp_port}", *NAMED)
+    part = parts.own("gateways-udp", *words, name=name).start("listens on")
+    second = Forwarder(GATEWAYS[1], parts.udp_port)
+    second.look()
+    link = network.link()
+    with Flooder(parts.udp_port):
+        flooded = network.link()
+        for number in range(OTHERS):
+            second.hears(b"%04d" % number)
+            time.sleep(PAUSE)
+    assert part.end() == 0
+    flooded.close()
+    second.close()
+    return len(came_on(link))
+
+
+@pytest.mark.timed
+def test_flood_beside_another(parts: Parts, network: Network) -> None:
+    """While a stranger sends 2.5 MB a second under the EUI of one gateway, 99 % of what another one
+    hears comes out. A machine that does much else is given some tries."""
+    found: list[int] = []
+    while len(found) < TRIES and max(found, default=0) < 0.99 * OTHERS:
+        found.append(beside_a_flood(parts, network, f"bridge-{len(found)}"))
+    assert max(found) >= 0.99 * OTHERS, f"{found} of {OTHERS} frames came out"
+
+
 @pytest.mark.timed
 def test_flood_by_mqtt(parts: Parts, network: Network) -> None:
     """A gateway floods the bridge of gateways by MQTT."""
@@ -130,6 +200,6 @@ def test_flood_by_mqtt(parts: Parts, network: Network) -> None:
         second.hears(b"loud", snr=50)
         second.hears(b"last")
         second.client.publish("other", b"", 1).wait_for_publish(30)
-        time.sleep(0.5)
+        flood.await_last()
     assert flood.part.end() == 0
     flood.compare(counted(file, "gateways_mqtt_"), "wrong_events")

@@ -116,7 +116,7 @@ def losses_are_counted(whole: Whole) -> None:
     lost = Counter(mark.device for mark in acknowledged if mark not in stored)
     total = told.splitlines()[-1].split(" ")
     for line in told.splitlines()[:-1]:
-        device, _, count, _, missing, _, taken, _, less = line.split(" ")
+        device, _, count, _, missing, _, taken, _, less, *_ = line.split(" ")
         assert int(count) == of_device[device], f"stored of {device}"
         is_so = int(less) == int(taken) - int(count) and int(less) >= lost[device]
         assert is_so, f"{line}, and {lost[device]} of them weren't counted"

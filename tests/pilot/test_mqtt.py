@@ -2,15 +2,21 @@
 
 import base64
 import json
+import os
 import signal
 from collections.abc import Iterable, Iterator
+from datetime import datetime, timedelta, timezone
+from pathlib import Path
+from typing import Any
 
 import pytest
-from bozintar.meters import Meter, Reading
+from bozintar.links import Application
+from bozintar.meters import JOIN_EUI, Meter, Reading
 from bozintar.processes import HOST, await_that
 
-from .field import APPLICATION, GATEWAYS
+from .field import APPLICATION, GATEWAYS, counts_in
 from .parts import Parts, run
+from .rows import table
 from .whole import Dashboard, Whole
 
 TAG = 41
@@ -23,6 +29,8 @@ SESSIONS = (
     ("70b3d57ed0000001", 1, 0),
 )
 HEAD = "DevEUI,JoinNonce"
+# when they came
+TIME = "2026-11-29T16:13:57.305031+00:00"
 HIGHEST = ("00000000000000FE,16777215", "70B3D57ED0000001,1", "70B3D57ED0000002,10")
 # nothing, no JSON, no object, no base64, too deep, no number
 WRONG_COMMANDS = (b"", b"{", b"[]", b'{"fPort":7,"data":"%"}', b"[" * 60000, b'{"fPort":"7"}')
@@ -110,7 +118,20 @@ def test_refused_items(whole: Whole, dashboard: Dashboard) -> None:
     await_that("queued", lambda: "last" in queued())
     assert queued() == ["the same", "last"]
     codes = [body["code"] for _, kind, body in dashboard.events if kind == "log"]
-    assert codes == ["UNKNOWN_DEVICE", "BAD_PORT", "DOWNLINK_PAYLOAD_SIZE"]
+    due = ["UNKNOWN_DEVICE", "BAD_PORT", "DOWNLINK_PAYLOAD_SIZE", "ID_IN_USE"]
+    assert sorted(codes) == sorted(due)
+
+
+def test_status_of_a_device(whole: Whole, dashboard: Dashboard) -> None:
+    """A DevStatusReq is queued by hand, and goes down after the next reading (TS001-1.0.4 §5.5)."""
+    meter = whole.meters[0]
+    topic = f"application/{APPLICATION}/device/{meter.dev_eui.lower()}/command/mac"
+    dashboard.say(topic, b'{"commands":"06"}')
+    await_that("queued", lambda: dashboard.of(meter.dev_eui, "macqueued"))
+    assert whole.reading(meter), "a reading, and the request after it"
+    dashboard.say(topic, b'{"commands":"0A"}')
+    await_that("the event", lambda: dashboard.of(meter.dev_eui, "log"))
+    assert dashboard.of(meter.dev_eui, "log")[0]["code"] == "BAD_MAC"
 
 
 def wrong_events(good: dict) -> list:
@@ -154,40 +175,67 @@ def test_retained_command(whole: Whole, dashboard: Dashboard) -> None:
 
 @pytest.mark.parametrize("meters", [4])
 def test_devices_again(whole: Whole) -> None:
-    """The same file again, with a new line and a wrong one."""
-    part, other = whole.applications, Meter(99)
+    """The same file again, with a new line, a wrong one, and one of another application's device:
+    it says what was there before."""
+    part, other, third = whole.applications, Meter(99), Meter(98)
+    link = Application(whole.pilot.address, APPLICATION + 1)
+    link.asks(f"provision {third.dev_eui} {JOIN_EUI} {third.app_key.hex().upper()} 0 1")
+    assert link.hears().startswith("provisioned ")
+    link.close()
     said = len(part.said())
     with open(whole.file, "a", encoding="utf-8") as file:
-        file.write(f"{other.row()}\nno device\n# a comment\n\n")
+        file.write(f"{other.row()}\nno device\n# a comment\n{third.row()}\n")
     part.send_signal(signal.SIGHUP)
     await_that("told", lambda: part.has_said("devices are there", said))
     told = [line.partition("  ")[2] for line in part.said()[said:].splitlines()]
-    assert f"line 6: {other.dev_eui} is provisioned, in slot 4" in told
-    assert "line 7: 1 fields, and not 3 to 5" in told
-    assert told[-1].endswith("5 devices are there, 1 aren't")
+    assert f"line 6: {other.dev_eui} is provisioned, in slot 5" in told
+    assert "line 7: there is no JoinEUI, AppKey" in told
+    of_another = "a device of another application has this DevEUI"
+    assert f"line 9: {third.dev_eui}: {of_another}" in told
+    due = "5 devices are there, 2 aren't; 4 were there before: their keys were not compared"
+    assert told[-1].endswith(due)
+
+
+CHECKED = (
+    ("{row}\n", 0, ["{file}: 1 devices, 0 lines with a fault"]),
+    (
+        "{row}\n\n{row}0\n",
+        1,
+        ["line 3: AppKey isn't 32 hex digits", "{file}: 1 devices, 1 lines with a fault"],
+    ),
+)
+
+
+@table("text, status, due", CHECKED)
+def test_check_of_a_file(text: str, status: int, due: list[str], folder: Path) -> None:
+    """A file of devices is checked without a network or a broker."""
+    file, row = folder / "devices.csv", ",".join(Meter(7).row().split(",")[:3])
+    file.write_text(text.format(row=row), encoding="utf-8")
+    said = "".join(f"{line.format(file=file)}\n" for line in due)
+    assert run("applications-mqtt", "--check", "--devices", file) == (status, said, "")
 
 
 class Stored:
     """Readings that are stored, of events that come on a broker."""
 
-    def __init__(self, parts: Parts) -> None:
+    def __init__(self, parts: Parts, *more: str) -> None:
         parts.broker().start("running")
         self.database, at = parts.file("readings.db"), f"{HOST}:{parts.broker_port}"
         words = ("--db", self.database, "--broker", at, "--application", APPLICATION)
-        self.part = parts.own("readings", *words).start("connected")
+        self.part = parts.own("readings", *words, *more).start("connected")
         self.dashboard = Dashboard(parts.broker_port)
 
-    def say(self, readings: Iterable[tuple[str, int, int]]) -> None:
+    def say(self, readings: Iterable[tuple[str, int, int]], time: str = TIME) -> None:
         """Events of readings: the device, JoinNonce, counter."""
         for device, session, counter in readings:
-            body = {"time": "now", "deviceInfo": {"devEui": device}, "joinNonce": session}
+            body = {"time": time, "deviceInfo": {"devEui": device}, "joinNonce": session}
             body |= {"fCnt": counter, "fPort": 7, "data": "AA=="}
             topic = f"application/{APPLICATION}/device/{device}/event/up"
             self.dashboard.say(topic, json.dumps(body).encode())
 
-    def prints(self, option: str) -> tuple[int, str, str]:
+    def prints(self, *options: Any) -> tuple[int, str, str]:
         """What it prints of its database."""
-        return run("readings", "--db", self.database, option)
+        return run("readings", "--db", self.database, *options)
 
 
 @pytest.fixture
@@ -208,6 +256,33 @@ def test_join_nonces(stored: Stored) -> None:
     assert stored.prints("--join-nonces") == due, "of a database that nobody has open"
 
 
+def test_two_programs_of_one_name(stored: Stored, parts: Parts) -> None:
+    """Two programs that store the readings of one application say that another client has the name
+    of theirs, and count it."""
+    file, at = parts.file("readings.prom"), f"{HOST}:{parts.broker_port}"
+    words = ("--db", parts.file("other.db"), "--broker", at, "--application", APPLICATION)
+    other = parts.own("readings", *words, "--counts", file, name="other").start("connected")
+    for part in (stored.part, other):
+        is_logged = lambda: part.has_said("Another client may use this client's name")
+        await_that("it is logged", is_logged)
+    await_that("counted", lambda: counts_in(file)["readings_closed_soon"] > 0, 30, 0.5)
+
+
+def test_counts_of_readings(parts: Parts) -> None:
+    """What a program that stores readings says of itself."""
+    file, time = parts.file("readings.prom"), datetime.now(timezone.utc) - timedelta(hours=2)
+    stored = Stored(parts, "--counts", file)
+    with stored.dashboard:
+        stored.say([("70b3d57ed0000001", 1, 0)] * 2, time.isoformat())
+        stored.dashboard.say("application/3/device/70b3d57ed0000001/event/up", b"{}")
+        names = [f"readings_{name}" for name in ("stored", "repeated", "wrong", "broker_connected")]
+        counted = lambda: [counts_in(file)[name] for name in names] == [1, 1, 1, 1]
+        await_that("the counts", lambda: os.path.exists(file) and counted(), 30, 0.5)
+    numbers = counts_in(file)
+    assert 7200 <= numbers["readings_late_seconds"] < 7300
+    assert numbers["readings_disk_free_bytes"] > 0
+
+
 # readings: the device, JoinNonce, counters; and what is printed of them
 COUNTERS = (
     ("70b3d57ed0000001", 1, (0, 1, 2)),
@@ -218,9 +293,9 @@ COUNTERS = (
     ("70b3d57ed0000003", 1, (0,)),
 )
 REPORT = (
-    "70B3D57ED0000001 stored 5 missing 0",
-    "70B3D57ED0000002 stored 2 missing 4",
-    "70B3D57ED0000003 stored 1 missing 0",
+    f"70B3D57ED0000001 stored 5 missing 0 last {TIME}",
+    f"70B3D57ED0000002 stored 2 missing 4 last {TIME}",
+    f"70B3D57ED0000003 stored 1 missing 0 last {TIME}",
     "readings 8 missing 4",
 )
 
@@ -234,6 +309,66 @@ def test_report(stored: Stored) -> None:
     await_that("all are stored", lambda: stored.prints("--report")[1].count("stored") == 3)
     await_that("the last one", lambda: REPORT[2] in stored.prints("--report")[1])
     assert stored.prints("--report") == due
+
+
+# a list after a restore, by docs/FORMATS.md: the server took 3, 9 and 4 uplinks, of which the copy
+# had 1, 3 and 4. Of the first device 2 are stored since (of the session 1025), of the second 1
+HEARD_OF = (3, 9, 4)
+LISTED = [
+    f"{slot} 70B3D57ED000000{slot + 1} 1026 1 41 3 0 {heard}" for slot, heard in enumerate(HEARD_OF)
+]
+RESTORED = """devices 3
+recorded 0
+grants_left 16776103
+above 70B3D57ED0000001 1024 1
+above 70B3D57ED0000002 1031 3
+above 70B3D57ED0000003 1025 4
+"""
+SINCE = (
+    ("70b3d57ed0000001", 1025, 0),
+    ("70b3d57ed0000001", 1025, 1),
+    ("70b3d57ed0000002", 1032, 0),
+)
+TAKEN_SINCE = (
+    f"70B3D57ED0000001 stored 7 missing 0 taken 2 lost 0 restored last {TIME}",
+    f"70B3D57ED0000002 stored 3 missing 4 taken 6 lost 5 restored last {TIME}",
+    f"70B3D57ED0000003 stored 1 missing 0 taken 0 lost 0 restored last {TIME}",
+    "readings 11 missing 4 lost 5",
+)
+# without what lnsd restore printed, a loss is only seen if it is greater than what was stored before
+TAKEN = (
+    f"70B3D57ED0000001 stored 7 missing 0 taken 3 lost 0 restored last {TIME}",
+    f"70B3D57ED0000002 stored 3 missing 4 taken 9 lost 6 last {TIME}",
+    f"70B3D57ED0000003 stored 1 missing 0 taken 4 lost 3 last {TIME}",
+    "readings 11 missing 4 lost 9",
+)
+
+
+def test_report_after_a_restore(stored: Stored, parts: Parts) -> None:
+    """What the server took, and what of it is lost, is counted from the restore on; no device's
+    readings from before make up for another one's losses."""
+    marks = [(dev, session, each) for dev, session, counters in COUNTERS for each in counters]
+    stored.say([*marks, *SINCE])
+    await_that("all are stored", lambda: "readings 11 " in stored.prints("--report")[1])
+    words = ("--report", "--list", parts.file("list", "\n".join(LISTED) + "\n"))
+    assert stored.prints(*words) == (0, "\n".join(TAKEN) + "\n", "")
+    more = ("--restored", parts.file("restored", RESTORED))
+    assert stored.prints(*words, *more) == (0, "\n".join(TAKEN_SINCE) + "\n", "")
+
+
+def test_silent_devices(stored: Stored, parts: Parts) -> None:
+    """Which devices are silent, the longest first, and since when; also those that never sent."""
+    now = datetime.now(timezone.utc)
+    times = [(now - timedelta(hours=hours)).isoformat() for hours in (47, 49, 72)]
+    for number, time in enumerate(times):
+        stored.say([(f"70b3d57ed000000{number}", 1, 0)], time)
+    await_that("all are stored", lambda: "readings 3 " in stored.prints("--report")[1])
+    due = [f"70B3D57ED0000002 last {times[2]}", f"70B3D57ED0000001 last {times[1]}"]
+    assert stored.prints("--silent", "48h")[1].splitlines() == [*due, "silent 2 of 3"]
+    file = parts.file("devices.csv", f"{Meter(7).row()}\n70b3d57ed0000000,{JOIN_EUI},{'0' * 32}\n")
+    words = ("--silent", "2d", "--devices", file)
+    never = f"{Meter(7).dev_eui} last -"
+    assert stored.prints(*words)[1].splitlines() == [never, "silent 1 of 2"]
 
 
 def test_readings_while_away(stored: Stored) -> None:

@@ -6,13 +6,15 @@ import time
 from pathlib import Path
 from typing import Any
 
-from bozintar.processes import HOST
+from bozintar.forwarders import Forwarder
+from bozintar.processes import HOST, await_that
 
 from .field import GATEWAYS
 from .parts import PILOT, Pilot, run
 
 # a line of Prometheus' text format that has a number
-SAMPLE = re.compile(r'([a-zA-Z_:][a-zA-Z0-9_:]*)(\{[a-z]+="(?:[^"\\\n]|\\["\\n])*"\})? (\S+)')
+LABEL = r'[a-z]+="(?:[^"\\\n]|\\["\\n])*"'
+SAMPLE = re.compile(rf"([a-zA-Z_:][a-zA-Z0-9_:]*)(\{{{LABEL}(?:,{LABEL})*\}})? (\S+)")
 STATUS = """listening 1:2
 made 7
 windows 3 and later words
@@ -103,6 +105,7 @@ BRIDGES = {
     "gateways-udp": ("--udp", "listens on"),
     "gateways-mqtt": ("--broker", "connected to"),
     "applications-mqtt": ("--broker", "connected to"),
+    "readings": ("--broker", "connected to"),
 }
 
 
@@ -118,10 +121,20 @@ def of_bridge(pilot: Pilot, name: str) -> set[str]:
     """The names of the numbers that a bridge writes."""
     option, ready = BRIDGES[name]
     port = pilot.udp_port if option == "--udp" else pilot.broker_port
-    whose = ("--application", "3") if name.startswith("app") else ("--gateway", GATEWAYS[0])
+    whose: tuple = ("--network", pilot.network, "--gateway", GATEWAYS[0])
+    if name == "applications-mqtt":
+        whose = ("--network", pilot.network, "--application", "3")
+    if name == "readings":
+        whose = ("--db", pilot.file("readings.db"), "--application", "3")
     file = pilot.file(f"{name}.prom")
-    words = ("--network", pilot.network, option, f"{HOST}:{port}", *whose, "--counts", file)
-    pilot.own(name, *words).start(ready).end()
+    part = pilot.own(name, option, f"{HOST}:{port}", *whose, "--counts", file).start(ready)
+    if name == "gateways-udp":
+        with_pull = Forwarder(GATEWAYS[0], pilot.udp_port)
+        with_pull.look()
+        await_that("it asks for downlinks", lambda: part.has_said("asks from"))
+        with_pull.close()
+    await_that("the counts", lambda: os.path.exists(file), 20)
+    part.end()
     return set(samples(Path(file).read_text(encoding="utf-8")))
 
 
@@ -132,6 +145,19 @@ def test_alerts(pilot: Pilot, folder: Path) -> None:
     assert set(ALERTS) <= found, "names that alerts use, and that are numbers"
 
 
+def test_file_that_others_have_made(folder: Path) -> None:
+    """A link that another user has put beside the numbers isn't followed; all may read the numbers,
+    whatever the umask."""
+    victim, out = folder / "victim", folder / "lnsd.prom"
+    victim.write_text("of another user", encoding="utf-8")
+    program = played(folder, f'ln -s {victim} "{out}.$PPID.part"')
+    words = ("store", "--lnsd", program, "--out", out)
+    assert run("metrics", *words, umask=0o077)[0] == 0
+    assert victim.read_text(encoding="utf-8") == "of another user"
+    assert (out.stat().st_mode & 0o777, out.is_symlink()) == (0o644, False)
+    assert "lnsd_up 1" in out.read_text(encoding="utf-8")
+
+
 def test_copied_counts(folder: Path) -> None:
     """Counts of bridges are copied as old as they are; a link isn't followed, nor is a pipe waited
     for; copies of bridges that have ended go, and nothing else does."""
@@ -139,7 +165,7 @@ def test_copied_counts(folder: Path) -> None:
     to.mkdir()
     for name in ("applications-mqtt-4", "other"):
         (to / f"{name}.prom").write_text("old 1\n", encoding="utf-8")
-    names = ("gateways-udp", "gateways-mqtt", "applications-mqtt-3")
+    names = ("gateways-udp", "gateways-mqtt", "readings-3")
     sources = [run / f"bozintar-{name}" / f"{name}.prom" for name in names]
     for source in sources:
         source.parent.mkdir(parents=True)

@@ -56,6 +56,10 @@ WORDS = (
     ("applications-mqtt", (*MQTT, "--application", "16"), 2),
     ("applications-mqtt", (*MQTT, "--application", "3", "--devices", NOWHERE), 1),
     ("applications-mqtt", (*MQTT, "--application", "-1"), 2),
+    ("applications-mqtt", (*MQTT, "--application", "3", "--ids", NOWHERE), 1),
+    ("applications-mqtt", (*MQTT, "--application", "3", "--ids", "/bin/sh"), 1),
+    ("applications-mqtt", ("--check",), 2),
+    ("applications-mqtt", ("--check", "--devices", NOWHERE), 1),
     ("readings", (), 2),
     ("readings", ("--db", NOWHERE, "--report"), 1),
     ("readings", ("--db", "/bin/sh", "--report"), 1),
@@ -69,6 +73,9 @@ WORDS = (
     ("readings", ("--db", NOWHERE, "--join-nonces"), 1),
     ("readings", ("--db", "/bin/sh", "--join-nonces"), 1),
     ("readings", ("--db", ":memory:", "--join-nonces", "--report"), 2),
+    ("readings", ("--db", ":memory:", "--silent", "48"), 2),
+    ("readings", ("--db", ":memory:", "--silent", "48h", "--report"), 2),
+    ("readings", ("--db", ":memory:", "--report", "--restored", NOWHERE), 2),
     ("readings", (*READINGS, "--certificate", "x", "--key", "x"), 2),
     ("readings", (*READINGS, "--ca", NOWHERE), 1),
     ("metrics", (), 2),
@@ -76,6 +83,9 @@ WORDS = (
     ("metrics", ("store", "--lnsd", "/bin/false", "--out", f"{NOWHERE}/x.prom"), 1),
     ("metrics", ("store", "--lnsd", "/"), 1),
     ("metrics", ("store", "--lnsd", "/bin/false", "--counts", "/"), 2),
+    ("wireshark-keys", ("--devices", NOWHERE), 2),
+    ("wireshark-keys", ("/bin/sh", "--devices", NOWHERE), 1),
+    ("wireshark-keys", ("/bin/sh", "--devices", "/dev/null"), 1),
     ("secure/certificates", (NOWHERE, "server", "x"), 1),
     ("secure/certificates", (NOWHERE, "server"), 2),
     ("secure/certificates", (NOWHERE, "server", "a/CN=b"), 2),
@@ -209,7 +219,7 @@ def test_strange_peers(pilot: Pilot, strangers: list[Stranger]) -> None:
 
 def read_line(content: bytes) -> Any:
     """What the bridge of an application reads of a content."""
-    return Translator(3, {}).event(line_of(content), "")
+    return Translator(3, lambda *_: None).event(line_of(content), "")
 
 
 @pytest.mark.parametrize("read", (Downlink.read, read_line), ids=("a downlink", "a line"))
