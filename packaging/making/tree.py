@@ -18,7 +18,14 @@ FOLDERS = ("pilot", "python")
 # What lies in these folders and isn't installed: it is for a clone.
 LEFT_OUT = ("pilot/install", "pilot/speed")
 # Debian's packages of the libraries that the programs may use.
-LIBRARIES = {"paho": "python3-paho-mqtt", "prometheus_client": "python3-prometheus-client"}
+LIBRARIES = {
+    "aiohttp": "python3-aiohttp",
+    "jinja2": "python3-jinja2",
+    "paho": "python3-paho-mqtt",
+    "prometheus_client": "python3-prometheus-client",
+}
+# What Python programs read beside their modules.
+PAGES = ("pilot/console/pages", "pilot/console/static")
 # The suffixes of settings and rules that are installed as examples.
 EXAMPLES = (".conf", ".acl", ".yml")
 SHEBANGS = ((b"#!/usr/bin/env python3", b"#!/usr/bin/python3"),)
@@ -97,7 +104,7 @@ def put_python(tree: Tree) -> list[str]:
     """Copies the programs in Python and their modules; returns the programs."""
     names = [name for name in tree.tracked(*FOLDERS) if not name.startswith(LEFT_OUT)]
     found = [name for name in names if is_python(tree.top, name)]
-    for name in found:
+    for name in (*found, *tree.tracked(*PAGES)):
         tree.copy(name, f"{LIB}/{name}")
     return [name for name in found if os.access(tree.top / name, os.X_OK)]
 
@@ -150,11 +157,12 @@ def put_documents(tree: Tree) -> None:
     for name in ("README.md", "SECURITY.md", *tree.tracked("docs/*.md")):
         tree.copy(name, f"{DOC}/{Path(name).name}")
     tree.copy("pilot/README.md", f"{DOC}/PILOT.md")
+    tree.copy("pilot/console/README.md", f"{DOC}/CONSOLE.md")
     # dh_installchangelogs would take a CHANGELOG for Debian's own
     tree.copy("CHANGELOG.md", f"{DOC}/NEWS.md")
     tree.copy(f"{SETTINGS}/README.Debian", f"{DOC}/README.Debian")
     for name in tree.tracked("pilot"):
         if name.endswith(EXAMPLES):
             tree.copy(name, f"{DOC}/examples/{Path(name).name}")
-    for name in ("lnsd.conf", "bridges.conf", "gateways"):
+    for name in ("lnsd.conf", "bridges.conf", "console.conf", "gateways"):
         tree.copy(f"{SETTINGS}/{name}", f"etc/bozintar/{name}")

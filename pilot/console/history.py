@@ -7,7 +7,7 @@ import sqlite3
 import time
 from typing import Any
 
-from bozintar.words import log
+from bozintar.logs import log
 
 TABLES = """
 CREATE TABLE IF NOT EXISTS uplinks (device TEXT, session INTEGER, counter INTEGER, came REAL,

@@ -11,7 +11,7 @@ from pathlib import Path
 from typing import Any
 
 from aiohttp import web
-from bozintar.words import log
+from bozintar.logs import log
 from bridges.devices import Fault, Row
 from jinja2 import Environment, FileSystemLoader, StrictUndefined
 

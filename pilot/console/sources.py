@@ -7,7 +7,7 @@ from pathlib import Path
 
 from bozintar.broker import Access, Broker
 from bozintar.fields import Wrong
-from bozintar.words import log
+from bozintar.logs import log
 
 from . import broker_events, server_lines
 from .network import Network
@@ -18,7 +18,7 @@ STATUS_EVERY, DEVICES_EVERY = 2.0, 10.0
 # how long until the lookout is connected to again
 PAUSE = 1.0
 COPIES = re.compile(
-    r'pilot_gateways_[a-z]+_gateway_copies_total\{gateway="([0-9A-F]{16})"\} ([0-9.e+]{1,20})'
+    r'pilot_gateway_copies_total\{bridge="[a-z]+",gateway="([0-9A-F]{16})"\} ([0-9.e+]{1,20})'
 )
 # in a folder of all, for example node_exporter's, or in one of each bridge
 COUNTS_FILES = ("gateways-*.prom", "*/gateways-*.prom")

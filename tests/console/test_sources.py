@@ -16,9 +16,9 @@ from console.sources import Sources, copies_in, take_copies
 from .sites import DEVICE, GATEWAY, STATUS, Clock, Console, listed, up
 
 # as the bridges write them, in Prometheus' text format
-COUNTS = f"""# HELP pilot_gateways_udp_gateway_copies_total gateway copies, by gateways
-# TYPE pilot_gateways_udp_gateway_copies_total counter
-pilot_gateways_udp_gateway_copies_total{{gateway="{GATEWAY}"}} 41.0
+COUNTS = f"""# HELP pilot_gateway_copies_total frames of a gateway that were handed in
+# TYPE pilot_gateway_copies_total counter
+pilot_gateway_copies_total{{bridge="udp",gateway="{GATEWAY}"}} 41.0
 pilot_gateways_udp_copies_total 41.0
 """
 

@@ -1,0 +1,80 @@
+"""Requests of other programs on this machine, over a Unix socket: so AppKeys needn't go over the
+broker, whose other clients may see them."""
+
+import asyncio
+import os
+import re
+import socket
+import stat
+from collections.abc import Awaitable, Callable
+
+from bozintar.logs import log
+from bozintar.words import stop
+
+# a request of docs/FORMATS.md, and which of its words its answer repeats
+REQUESTS = {"provision": ("provisioned", 1), "queue": ("queued", 2), "mac": ("macqueued", 2)}
+LINE = re.compile(r"[0-9A-Za-z -]{1,640}")
+BAD_MESSAGE, UNANSWERED = "refused 51", "unanswered"
+# asks the network for a line, whose answer begins so; None if none came
+Ask = Callable[[str, str], Awaitable[str | None]]
+
+
+def due_of(line: str) -> str | None:
+    """How the answer to a request begins; None if the line is no request."""
+    kind, *words = line.split(" ")
+    if kind not in REQUESTS or not LINE.fullmatch(line):
+        return None
+    answer, count = REQUESTS[kind]
+    return " ".join([answer, *words[:count]]) if len(words) >= count else None
+
+
+class Asks:
+    """The socket. Each line that comes is asked for, one at a time, and answered by a line: the
+    network's, or `unanswered` if the link ended before it. (It may have been done then.)"""
+
+    def __init__(self, path: str, ask: Ask):
+        self.path, self.ask = path, ask
+
+    async def answer(self, line: str) -> str:
+        """The answer to a line."""
+        due = due_of(line)
+        return (await self.ask(line, due) or UNANSWERED) if due else BAD_MESSAGE
+
+    async def attend(self, reader: asyncio.StreamReader, writer: asyncio.StreamWriter) -> None:
+        """Answers one client, until it ends."""
+        try:
+            while line := await reader.readline():
+                answer = await self.answer(line.decode("ascii").rstrip("\n"))
+                writer.write(f"{answer}\n".encode("ascii"))
+                await writer.drain()
+        except (OSError, ValueError):
+            pass  # the client has ended, or sends something else than lines
+        finally:
+            writer.close()
+
+    async def serve(self) -> None:
+        """Serves without end."""
+        server = await asyncio.start_unix_server(self.attend, sock=listener(self.path))
+        log(f"takes requests by {self.path}")
+        try:
+            await server.serve_forever()
+        finally:
+            if os.path.exists(self.path):
+                os.unlink(self.path)
+
+
+def listener(path: str) -> socket.socket:
+    """A socket that its owner and its group may write to, in place of one that was left over."""
+    try:
+        if os.path.lexists(path):
+            if not stat.S_ISSOCK(os.lstat(path).st_mode):
+                stop(f"{path} is there already, and is no socket")
+            os.unlink(path)
+        made, before = socket.socket(socket.AF_UNIX), os.umask(0o117)
+        try:
+            made.bind(path)
+        finally:
+            os.umask(before)
+        return made
+    except OSError as why:
+        stop(f"{path} can't be made: {why.strerror or why}")
