@@ -2,7 +2,7 @@
 
 import csv
 import re
-from collections.abc import Iterator
+from collections.abc import Iterable, Iterator
 from dataclasses import dataclass, field
 
 # the columns of a file without a head, and what a head may call them, in small letters and digits
@@ -126,15 +126,11 @@ def device_of(place: int, of: dict[str, str]) -> Row:
     )
 
 
-def lines_of(file: str) -> Iterator[tuple[int, str]]:
-    """The lines of a file that have something, with their numbers; # begins a comment."""
-    with open(file, "rb") as raw:
-        encoding = "utf-16" if raw.read(2) in UTF_16 else "utf-8-sig"
-    with open(file, encoding=encoding, errors="replace") as text:
-        for place, line in enumerate(text, 1):
-            bare = COMMENT.sub(r"\1", line.rstrip("\r\n")).strip(" ")
-            if bare:
-                yield place, bare
+def bare_lines(lines: Iterable[str]) -> Iterator[tuple[int, str]]:
+    """The lines that have something, with their numbers; # begins a comment."""
+    for place, line in enumerate(lines, 1):
+        if bare := COMMENT.sub(r"\1", line.rstrip("\r\n")).strip(" "):
+            yield place, bare
 
 
 def head_of(line: str, separator: str) -> list[str] | None:
@@ -146,11 +142,11 @@ def head_of(line: str, separator: str) -> list[str] | None:
     return [CALLED.get(one) or word.strip() for one, word in zip(bare, words)]
 
 
-def read(file: str) -> Devices:
-    """All devices of a file. Its first line may name the columns, in any order. Each line is read by
-    itself, so that a quote that isn't closed spoils no other line."""
+def in_lines(lines: Iterable[str]) -> Devices:
+    """All devices of these lines. The first one may name the columns, in any order. Each line is read
+    by itself, so that a quote that isn't closed spoils no other line."""
     found, columns, is_first = Devices(), list(COLUMNS), True
-    for place, line in lines_of(file):
+    for place, line in bare_lines(lines):
         separator = max(",;\t", key=line.count)
         head, is_first = head_of(line, separator) if is_first else None, False
         if head:
@@ -168,3 +164,11 @@ def read(file: str) -> Devices:
         else:
             found.add(place, {name: (text or "").strip() for name, text in values.items()})
     return found
+
+
+def read(file: str) -> Devices:
+    """All devices of a file."""
+    with open(file, "rb") as raw:
+        encoding = "utf-16" if raw.read(2) in UTF_16 else "utf-8-sig"
+    with open(file, encoding=encoding, errors="replace") as text:
+        return in_lines(text)

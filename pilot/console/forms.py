@@ -7,14 +7,21 @@ from collections.abc import Mapping
 from dataclasses import dataclass
 
 from aiohttp import BodyPartReader, web
-from bridges.devices import HEAD, Fault, Row, device_of
+from bridges.devices import Devices, in_lines
 
 from .access import Refused
 from .mac_commands import power_dbm
-from .network import NAME_LENGTH
 
 MOST_BODY, MOST_ROWS, MOST_PAYLOAD = 400_000, 4096, 242
-FIELDS = ("eui", "join", "key", "offset", "delay", "name")
+# the columns of a form's fields
+FIELDS = {
+    "eui": "DevEUI",
+    "join": "JoinEUI",
+    "key": "AppKey",
+    "offset": "offset",
+    "delay": "delay",
+    "name": "name",
+}
 # of these, what a page may show again
 SHOWN = ("eui", "join", "offset", "delay", "name", "application")
 Form = Mapping[str, str]
@@ -81,30 +88,15 @@ def item(eui: str, form: Form) -> Request:
     return Request(f"queue {eui} {tag} {port} {kind} {payload or '-'}", text)
 
 
-def rows(form: Form) -> tuple[list[Row | Fault], dict[int, str]]:
-    """The devices that a form adds, with their names by their lines: that of its fields, or those
-    of its lines and its file, whose values are between commas, semicolons or tabs."""
-    listed = [(1, [form.get(name, "").strip() for name in FIELDS])]
-    if not form.get("eui", "").strip():
+def devices(form: Form) -> Devices:
+    """The devices that a form adds: that of its fields; or those of its lines and its file, which are
+    read as a bridge reads a file of devices."""
+    if form.get("eui", "").strip():
+        found = Devices()
+        found.add(1, {column: form.get(name, "").strip() for name, column in FIELDS.items()})
+    else:
         text = f"{form.get('lines', '')}\n{form.get('file', '')}"
-        listed = list(enumerate(map(words_of, text.splitlines()), 1))
-    found: list[Row | Fault] = []
-    names: dict[int, str] = {}
-    for place, words in listed:
-        heads = tuple(re.sub("[^a-z]", "", word.lower()) for word in words[:3])
-        if not any(words) or not found and heads == HEAD:
-            continue
-        if len(words) > 5 and words[5]:
-            names[place] = words[5][:NAME_LENGTH]
-        # an empty offset or delay is one that is left out
-        how = [word or default for word, default in zip(words[3:5], ("0", "1"))]
-        found.append(device_of(place, words[:3] + how))
-    if len(found) > MOST_ROWS:
+        found = in_lines(text.splitlines())
+    if len(found.rows) + len(found.faults) > MOST_ROWS:
         raise ValueError(f"There are more than {MOST_ROWS} devices.")
-    return found, names
-
-
-def words_of(line: str) -> list[str]:
-    """The values of a line; # begins a comment."""
-    words = re.split("[,;\t]", line.partition("#")[0])
-    return [word.strip().strip('"') for word in words]
+    return found

@@ -12,7 +12,7 @@ from typing import Any
 
 from aiohttp import web
 from bozintar.logs import log
-from bridges.devices import Fault, Row
+from bridges.devices import Row
 from jinja2 import Environment, FileSystemLoader, StrictUndefined
 
 from . import attention, device_list, device_plots, forms, overview, plots, text
@@ -329,22 +329,22 @@ class Site:
         form, user = request["form"], request["user"]
         application = form.get("application", "")
         try:
-            found, names = forms.rows(form)
+            found = forms.devices(form)
         except ValueError as why:
             answer = Answer(False, str(why))
             raise self.done(request, Outcome(user.name, [("", answer)])) from None
-        wanted = [row for row in found if isinstance(row, Row)]
-        lines = await self.bridges.ask(application, [row.line() for row in wanted])
-        said = dict(zip((row.place for row in wanted), map(answer_of, lines)))
-        answers: list[tuple[str, Answer]] = []
-        for row in found:
-            if isinstance(row, Fault):
-                answers.append((f"Line {row.place}", Answer(False, f"{row.why}.")))
-                continue
+        lines = await self.bridges.ask(application, [row.line() for row in found.rows])
+        said = dict(zip((row.place for row in found.rows), map(answer_of, lines)))
+        by_place = {
+            fault.place: (f"Line {fault.place}", Answer(False, f"{fault.why}."))
+            for fault in found.faults
+        }
+        for row in found.rows:
             answer = said.get(row.place, Answer(False, UNANSWERED))
-            answers.append((row.dev_eui, answer))
+            by_place[row.place] = (row.dev_eui, answer)
             if answer.is_done:
-                self.added(request, row, application, names.get(row.place, ""))
+                self.added(request, row, application)
+        answers = [by_place[place] for place in sorted(by_place)]
         await self.refresh()
         if not answers:
             answers = [("", Answer(False, "There was no device in the form."))]
@@ -352,9 +352,9 @@ class Site:
         typed = {} if is_well else {name: form.get(name, "") for name in forms.SHOWN}
         raise self.done(request, Outcome(user.name, answers, typed))
 
-    def added(self, request: web.Request, row: Row, application: str, name: str) -> None:
+    def added(self, request: web.Request, row: Row, application: str) -> None:
         """A device was added."""
         self.network.device(row.dev_eui).application = application
-        if name:
-            self.network.rename(row.dev_eui, name)
+        if row.name:
+            self.network.rename(row.dev_eui, row.name)
         self.note(request, row.dev_eui, f"Added to application {application}")

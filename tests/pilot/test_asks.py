@@ -31,8 +31,8 @@ class Asked:
     def __init__(self, parts: Parts, network: Network) -> None:
         self.path = parts.file("ask")
         self.broker = parts.broker().start("running")
-        words = ("--network", network.at, "--broker", f"{HOST}:{parts.broker_port}")
-        words += ("--application", "3", "--asks", self.path)
+        words = ["--network", network.at, "--broker", f"{HOST}:{parts.broker_port}"]
+        words += ["--application", "3", "--asks", self.path]
         self.bridge: Process = parts.own("applications-mqtt", *words).start("takes requests")
         self.end: End = network.link()
         self.client = self.connect()
