@@ -10,7 +10,8 @@ from .browsers import SCHEMES, WIDTHS, Browser
 from .networks import GATEWAYS, Whole
 from .sites import KEY
 
-pytestmark = pytest.mark.slow
+# a browser beside other work exceeds the limits of its driver
+pytestmark = [pytest.mark.slow, pytest.mark.timed]
 # the meters: one joins and is heard, one can't join, one stays silent
 HEARD, WRONG, NEVER = (f"70B3D57ED000000{number}" for number in (1, 2, 3))
 EVIL = "\"'><script>document.title='owned'</script><img src=x onerror=alert(1)>"
