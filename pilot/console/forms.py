@@ -95,8 +95,8 @@ def devices(form: Form) -> Devices:
         found = Devices()
         found.add(1, {column: form.get(name, "").strip() for name, column in FIELDS.items()})
     else:
-        text = f"{form.get('lines', '')}\n{form.get('file', '')}"
-        found = in_lines(text.splitlines())
+        texts = (form.get("lines", ""), form.get("file", ""))
+        found = in_lines("\n".join(text for text in texts if text.strip()).splitlines())
     if len(found.rows) + len(found.faults) > MOST_ROWS:
         raise ValueError(f"There are more than {MOST_ROWS} devices.")
     return found

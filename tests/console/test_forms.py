@@ -164,8 +164,10 @@ def test_one_device(console: Console) -> None:
     "name, value, why",
     [
         ("eui", "70B3", "DevEUI isn't 16 hex digits."),
-        ("join", "", "JoinEUI isn't 16 hex digits."),
-        ("key", "", "AppKey isn't 32 hex digits."),
+        ("join", "", "there is no JoinEUI."),
+        ("join", "1", "JoinEUI isn't 16 hex digits."),
+        ("key", "", "there is no AppKey."),
+        ("key", KEY[1:], "AppKey isn't 32 hex digits."),
         ("offset", "6", "the offset is no number from 0 to 5."),
         ("delay", "16", "the delay is no number from 1 to 15."),
     ],
@@ -210,7 +212,10 @@ def test_many_devices(console: Console, is_file: bool) -> None:
     assert "70B3D57ED0000012: A device has this DevEUI already; it stays as it was." in page.text
     assert "School: Added, in slot 7." in page.text
     faults = [text for text in page.text.split("✗") if "Line " in text]
-    assert len(faults) == 2 and "hex digits" in faults[0] and "2 fields" in faults[1]
+    assert [fault.split(".")[0].strip() for fault in faults] == [
+        "Line 7: DevEUI isn't 16 hex digits",
+        "Line 8: there is no AppKey",
+    ]
     assert console.network.names == {"70B3D57ED0000013": "School"}
 
 
