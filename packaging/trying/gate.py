@@ -17,7 +17,10 @@ from .counting import Trials, needed, run
 
 # The package may have at most this many bytes.
 MOST_BYTES = 6 << 20
-CONFFILES = {f"/etc/bozintar/{name}" for name in ("bridges.conf", "gateways", "lnsd.conf")}
+SETTINGS = ("bridges.conf", "console.conf", "gateways", "lnsd.conf")
+CONFFILES = {f"/etc/bozintar/{name}" for name in SETTINGS}
+# The users that the package makes.
+USERS = ("lnsd", "bozintar", "bozintar-console")
 # Where the package may have files.
 PLACES = ("etc/bozintar/", "lib/systemd/system/", "usr/")
 # What runs the second build: another time zone, language, umask and folder for temporary files.
@@ -120,9 +123,9 @@ def try_units(trials: Trials, tree: Path, room: Path) -> None:
     status, out, said = run("systemd-sysusers", f"--root={root}", "bozintar.conf")
     users = root / "etc/passwd"
     names = users.read_text(encoding="utf-8") if users.exists() else ""
-    has_both = all(re.search(f"^{user}:", names, re.M) for user in ("lnsd", "bozintar"))
-    trials.holds("systemd-sysusers makes both users", not status and has_both, out + said)
-    trials.step(f"{len(units)} units, 2 users")
+    has_all = all(re.search(f"^{user}:", names, re.M) for user in USERS)
+    trials.holds("systemd-sysusers makes the users", not status and has_all, out + said)
+    trials.step(f"{len(units)} units, {len(USERS)} users")
 
 
 def start_broker(parts: Processes, tree: Path) -> int:
