@@ -115,7 +115,10 @@ def packed(clone: Clone) -> Clone:
 
 
 def is_packed(top: Path, name: Path) -> bool:
-    """Whether a file of the clone is one of the programs and modules of the package."""
+    """Whether a file of the clone is one of the programs and modules of the package, or one that the
+    console's site is made of."""
+    if name.is_relative_to("pilot/console/pages") or name.is_relative_to("pilot/console/static"):
+        return True
     is_python = name.suffix == ".py" or b"python3" in (top / name).read_bytes().split(b"\n")[0]
     return name.parts[0] in ("pilot", "python") and is_python and name not in OF_THE_CLONE
 
@@ -126,7 +129,7 @@ def test_what_is_packed(packed: Clone) -> None:
     units = Path("packaging/systemd")
     due = {name.relative_to(units) for name in packed.own if name.is_relative_to(units)}
     assert packed.came(UNITS_TO) == due
-    settings = {Path(name) for name in ("lnsd.conf", "bridges.conf", "gateways")}
+    settings = {Path(name) for name in ("lnsd.conf", "bridges.conf", "console.conf", "gateways")}
     assert packed.came("etc/bozintar") == settings
     assert {str(name) for name in packed.came(DOC)} >= {"README.Debian", "examples/mosquitto.acl"}
 
