@@ -74,11 +74,13 @@ pub named : (old new : Directory) (gateway : Eui) (n : ℕ) (left : List LinkedG
     → ((other : Eui) → other ≢ gateway → gateway_link other left ≡ gateway_link other old.gateways.items)
     → new.gateways.items ≡ left ++ record { gateway = gateway; link = n } ∷ []
     → new.applications ≡ old.applications
+    → new.first_ring ≡ old.first_ring
     → IsLinked old (names.Gateway gateway) n new
-named old new gateway n left none others pushed same_applications =
+named old new gateway n left none others pushed same_applications same_rings =
     record {
       now = ap (gateway_link gateway) pushed ∙ added gateway n left none;
       others = beside;
+      rings = same_rings;
     }
   where
     beside : (other : Recipient) → other ≢ names.Gateway gateway → link_of new other ≡ link_of old other

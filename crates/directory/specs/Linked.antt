@@ -50,16 +50,20 @@ may_greet directory name = is_none (link_of directory name) && has_free_link dir
 abbrev pub may_take_over : Directory → Recipient → Bool
 may_take_over directory name = is_some (link_of directory name) || has_free_link directory name
 
--- a name has this link now, and each other name has the link that it had
+-- a name has this link now, and each other name has the link that it had; the applications' rings
+-- stay where they were
 pub record IsLinked (old : Directory) (name : Recipient) (link : ℕ) (new : Directory) : Type 0 where
   pub now : link_of new name ≡ Some link
   pub others : (other : Recipient) → other ≢ name → link_of new other ≡ link_of old other
+  pub rings : new.first_ring ≡ old.first_ring
 
 -- this link has taken over this name
 abbrev pub IsHeld : Recipient → ℕ → HeldName → Type 0
 IsHeld name link held = (held.name ≡ name) × (held.link ≡ link)
 
--- a name has no link now, and each other name has the link that it had
+-- a name has no link now, and each other name has the link that it had; the applications' rings
+-- stay where they were
 pub record IsUnlinked (old : Directory) (name : Recipient) (new : Directory) : Type 0 where
   pub now : link_of new name ≡ None
   pub others : (other : Recipient) → other ≢ name → link_of new other ≡ link_of old other
+  pub rings : new.first_ring ≡ old.first_ring

@@ -185,6 +185,7 @@ impl Directory {
         ensures fewer { IsSome (gateway_link gateway self.old.gateways.items)
             → length self.new.gateways.items < length self.old.gateways.items }
         ensures applications { self.new.applications ≡ self.old.applications }
+        ensures rings { self.new.first_ring ≡ self.old.first_ring }
     {
         self.gateways.retain(|linked| linked.gateway.0 != gateway.0);
     }

@@ -1,11 +1,10 @@
 // What lives of cores leave, and what the store has after them.
 use crate::over_lives_tests::{calls_of_opening, crash};
-use devices::Command;
 use disk::Image;
 use flusher::{ChainLength, Released};
-use flusher_lives::{CallNumber, Coming, CoreEvent, CoreLife, decide_over_lives};
+use flusher_lives::{CallNumber, Coming, CoreLife, decide_over_lives};
 use lw_types::Refusal;
-use session_core::Moment;
+use session_core::{Event, Moment};
 use std::alloc::Global;
 use std::collections::VecDeque;
 use test_stores::devices_under_test::bringing;
@@ -13,11 +12,8 @@ use test_stores::stores_under_test::{found, new_store};
 
 // A device is provisioned before a take.
 fn provision(alloc: Global, dev_eui: u64) -> Result<Coming, Refusal> {
-    let Command::Provision(value) = bringing(dev_eui)? else {
-        return Err(Refusal::Damaged);
-    };
     let moment = Moment::new(0).ok_or(Refusal::Damaged)?;
-    Ok(vec![in alloc; (moment, CoreEvent::Provision(value))]?)
+    Ok(vec![in alloc; (moment, Event::Ask(bringing(dev_eui)?))]?)
 }
 
 // A life after this crash, or without one, in which two devices come, each before a take, and whose

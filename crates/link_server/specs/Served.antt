@@ -1,9 +1,10 @@
 -- How serving changes a store.
-use Rattle.std.specs.Prelude.{◌≡◌, ◌≤◌, ◌⊎◌, ℕ, true, List}
+use Rattle.std.specs.Prelude.{◌≡◌, ◌≤◌, ◌⊎◌, ◌+◌, ℕ, true, List, sum, Result, IfErr, IfOk, OnOk}
 use Rattle.disk.specs.declared.disk.Disk.{Ghosts}
 use Rattle.lw_types.specs.declared.refusal.Refusal.{Refusal}
 use Rattle.lw_types.specs.declared.refusal.Refusal.TheVariants.{Damaged, DeviceFailed, Failed}
 use Rattle.lw_types.specs.declared.refusal.Refusal.TheVariants.{OutOfMemory, OutOfStep}
+use Rattle.link_server.specs.declared.report.LifeReport.{LifeReport}
 use Rattle.server_links.specs.declared.fault.ServeFault.{ServeFault}
 use Rattle.server_links.specs.declared.fault.ServeFault.TheVariants.{Listen, Refused}
 use Rattle.sessions.specs.Table.{TableState}
@@ -45,3 +46,26 @@ IsFaultOf disk old new (Refused refusal) = IsRefused disk old new refusal
 -- number taken
 abbrev pub IsUntold : ServeFault → Type 0
 IsUntold fault = (fault ≡ Refused OutOfMemory) ⊎ (fault ≡ Refused OutOfStep)
+
+-- How a life whose threads ran leaves its store. If the life ended well, no call of the disk failed,
+-- and the store's number grew by as many decisions as were taken in it: `before` were taken when it
+-- began. Otherwise the refusal says why. The lives that led the store here go on.
+pub record IsRun {D : Type 0} (disk : Ghosts D) (old : Store D disk) (before : ℕ)
+    (result : Result ℕ Refusal) (new : Store D disk) : Type 0 where
+  pub healthy : OnOk result (NoneFailed disk.failures disk.outlook old new)
+  pub committed : IfOk result (λ taken. (store_state disk.state new).seq + before
+      ≡ (store_state disk.state old).seq + taken)
+  pub refused : IfErr result (IsRefused disk old new)
+  pub lives : disk.honest → IsLedOn (store_state disk.state old) (store_state disk.state new)
+
+-- How serving leaves a store, and what it reports. If there is a report, its shares sum to the
+-- number of decisions made, by which the store's number grew, and no call of the disk failed.
+-- Otherwise the fault says why. The lives that led the store here go on.
+pub record IsServed {D : Type 0} (disk : Ghosts D) (old : Store D disk)
+    (result : Result LifeReport ServeFault) (new : Store D disk) : Type 0 where
+  pub shares : IfOk result (λ report. sum report.shares.items ≡ report.made)
+  pub healthy : OnOk result (NoneFailed disk.failures disk.outlook old new)
+  pub committed : IfOk result (λ report. (store_state disk.state new).seq
+      ≡ (store_state disk.state old).seq + report.made)
+  pub refused : IfErr result (IsFaultOf disk old new)
+  pub lives : disk.honest → IsLedOn (store_state disk.state old) (store_state disk.state new)

@@ -89,7 +89,7 @@ fn let_out<B: Books, R: Wait>(
     ensures routed { (directory : Directory) × ((lost : ℕ)
         × IsRouted directory (effects_of_all released.items) lost outlets.old outlets.new) }
 {
-    server.signals.count_commit();
+    server.signals.counts.commits.add(1);
     if server.is_watched() {
         tell_joins(rt, server, released.as_slice());
     }
@@ -99,7 +99,7 @@ fn let_out<B: Books, R: Wait>(
     let lost = route(&directory, outlets, released, &mut marks, &mut missed);
     mark_links(&directory, server.links.len(), &mut marks);
     drop(directory);
-    server.signals.count_dropped(lost as u64);
+    server.signals.counts.dropped.add(lost as u64);
     tell_missed(rt, server, missed);
     ring_links(server, &marks);
 }

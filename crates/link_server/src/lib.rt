@@ -9,7 +9,6 @@ mod parts;
 mod report;
 mod running;
 mod serving;
-mod threads;
 
 pub use link_workers::{BUSY, WATCHING};
 pub use report::{LifeReport, ServedLife};

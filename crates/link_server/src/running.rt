@@ -1,15 +1,12 @@
 // Starting and joining the threads of a life.
 ghost use Rattle.std.specs.Prelude.{◌≡◌, ◌<◌, ◌∷◌, ◌++◌, [], IsSome, IsSomeAnd, IsTrue, MatchBool};
-ghost use Rattle.std.specs.Prelude.{◌+◌, IfErr, IfOk, OnOk, length, vec_capacity, vec_len};
-ghost use Rattle.flusher.specs.Calls.{NoneFailed};
-ghost use Rattle.link_server.specs.Served.{IsLedOn, IsRefused};
-ghost use Rattle.store.specs.State.{store_state};
+ghost use Rattle.std.specs.Prelude.{◌+◌, length, vec_capacity, vec_len};
+ghost use Rattle.link_server.specs.Served.{IsRun};
 
 use crate::flushing::flush;
 use crate::parts::{LinkParts, Parts};
-use crate::threads::{start_attendant, start_closer, start_host, start_sender, start_worker};
 use disk::Disk;
-use link_workers::{Attendant, Closer, Context, Host, LiveServer, Worker};
+use link_workers::{Attendant, Closer, Context, Host, LiveServer, Worker, start};
 use lw_types::Refusal;
 use server_links::{ATTENDANTS, Gate, LifeClock, OnBegun, Outgoing, Sender, Socket, Spare};
 use session_core::{Books, Seat, Taker};
@@ -46,25 +43,13 @@ pub(crate) fn run<
     parts: Parts<B>,
     on_begun: &mut N,
 ) -> LifeEnd<D, B>
-    ensures healthy { OnOk result.result (NoneFailed D.failures D.outlook store result.store) }
-    ensures committed { IfOk result.result (λ taken. (store_state D.state result.store).seq + taker
-        ≡ (store_state D.state store).seq + taken) }
-    ensures refused { IfErr result.result (IsRefused D.Disk store result.store) }
-    ensures lives { D.honest
-        → IsLedOn (store_state D.state store) (store_state D.state result.store) }
+    ensures { IsRun D.Disk store taker result.result result.store }
 {
     thread::scope(
         thread::scope_env(),
         context.rt,
         move |scope|
-            ensures healthy { OnOk result.result
-                (NoneFailed D.failures D.outlook store result.store) }
-            ensures committed { IfOk result.result
-                (λ taken. (store_state D.state result.store).seq + taker
-                ≡ (store_state D.state store).seq + taken) }
-            ensures refused { IfErr result.result (IsRefused D.Disk store result.store) }
-            ensures lives { D.honest
-                → IsLedOn (store_state D.state store) (store_state D.state result.store) }
+            ensures { IsRun D.Disk store taker result.result result.store }
         { run_in(scope, context, server, store, taker, parts, on_begun) },
     )
 }
@@ -87,12 +72,7 @@ fn run_in<
     parts: Parts<B>,
     on_begun: &mut N,
 ) -> LifeEnd<D, B>
-    ensures healthy { OnOk result.result (NoneFailed D.failures D.outlook store result.store) }
-    ensures committed { IfOk result.result (λ taken. (store_state D.state result.store).seq + taker
-        ≡ (store_state D.state store).seq + taken) }
-    ensures refused { IfErr result.result (IsRefused D.Disk store result.store) }
-    ensures lives { D.honest
-        → IsLedOn (store_state D.state store) (store_state D.state result.store) }
+    ensures { IsRun D.Disk store taker result.result result.store }
 {
     let Parts {
         links,
@@ -108,7 +88,8 @@ fn run_in<
         server,
         seat: closer,
     };
-    started.keep_seated(start_closer(context.alloc, scope, closer));
+    let name = String::from_str(context.alloc, "closer");
+    started.keep_seated(start(scope, name, move || closer.run()));
     started.start_attendants(scope, context, server);
     let mut store = store;
     let result = if started.is_whole {
@@ -175,14 +156,15 @@ impl<B: Books + Send + Sync> Started<B> {
             refusals,
         } = parts;
         let worker = Worker::new(context, server, link, number, seat, refused);
+        let reader = format!(in context.alloc; "link-{number}-in");
         let outgoing = Outgoing::new(context.alloc);
         let Socket::Fixed(stream) = &link.socket else {
             link.set_spare(context.rt, Spare { inlet, outgoing });
             let host = Host { worker };
-            self.keep_seated(start_host(context.alloc, scope, host));
+            self.keep_seated(start(scope, reader, move || host.run()));
             return;
         };
-        self.keep_seated(start_worker(context.alloc, scope, worker));
+        self.keep_seated(start(scope, reader, move || worker.run()));
         let sender = Sender {
             rt: context.rt,
             alloc: context.alloc,
@@ -197,7 +179,10 @@ impl<B: Books + Send + Sync> Started<B> {
             keeps: false,
             is_broken: false,
         };
-        self.keep_sender(start_sender(context.alloc, scope, number, sender));
+        let name = format!(in context.alloc; "link-{number}-out");
+        self.keep_sender(start(scope, name, move || {
+            let _ = sender.run();
+        }));
     }
 
     fn start_attendants<'s, E, R: Threads + Wait + Sync, G: Gate + Sync, C: LifeClock + Sync>(
@@ -222,7 +207,8 @@ impl<B: Books + Send + Sync> Started<B> {
                 control,
                 number,
             };
-            self.keep_attendant(start_attendant(context.alloc, scope, attendant));
+            let name = format!(in context.alloc; "control-{number}");
+            self.keep_attendant(start(scope, name, move || attendant.run()));
         }
     }
 

@@ -1,11 +1,10 @@
 // One life of a server.
 ghost use Rattle.std.specs.Prelude.{◌≡◌, ◌≢◌, ◌≤◌, ◌+◌, length, sum, Err, IfErr, IfOk};
-ghost use Rattle.std.specs.Prelude.{map, option_map, MatchResult, OnOk};
-ghost use Rattle.flusher.specs.Calls.{NoneFailed};
+ghost use Rattle.std.specs.Prelude.{map, option_map, MatchResult};
 ghost use Rattle.lw_types.specs.declared.refusal.Refusal.TheVariants.{OutOfMemory, OutOfStep};
 ghost use Rattle.server_links.specs.declared.fault.ServeFault.TheVariants.{Refused};
 ghost use Rattle.server_links.specs.Faults.{IsOfBeginning};
-ghost use Rattle.link_server.specs.Served.{IsFaultOf, IsLedOn, IsUntold};
+ghost use Rattle.link_server.specs.Served.{IsServed, IsUntold};
 ghost use Rattle.session_core.specs.Core.{new_core};
 ghost use Rattle.store.specs.State.{store_state};
 
@@ -18,7 +17,7 @@ use link_workers::{Context, LiveServer};
 use lw_types::Refusal;
 use outbox::Inlet;
 use server_links::{
-    ControlSocket, Door, Gate, LifeClock, Link, LinkCount, NobodyTold, OnBegun, PlaceCount,
+    ControlSocket, Counts, Door, Gate, LifeClock, Link, LinkCount, NobodyTold, OnBegun, PlaceCount,
     ServeFault, Signals, WaitingLines, accept, empty_places,
 };
 use session_core::{Books, Core, Seat, Shared};
@@ -76,13 +75,7 @@ pub fn serve_links<
     gate: &'x G,
     clock: &'x C,
 ) -> ServedLife<D>
-    ensures shares { IfOk result.result (λ report. sum report.shares.items ≡ report.made) }
-    ensures healthy { OnOk result.result (NoneFailed D.failures D.outlook store result.store) }
-    ensures committed { IfOk result.result (λ report. (store_state D.state result.store).seq
-        ≡ (store_state D.state store).seq + report.made) }
-    ensures refused { IfErr result.result (IsFaultOf D.Disk store result.store) }
-    ensures lives { D.honest
-        → IsLedOn (store_state D.state store) (store_state D.state result.store) }
+    ensures { IsServed D.Disk store result.result result.store }
 {
     let links = match accept(alloc, listener, links) {
         Ok(links) => links,
@@ -140,13 +133,7 @@ pub fn serve_on<
     times: &'x DiskTimes,
     on_begun: &mut N,
 ) -> ServedLife<D>
-    ensures shares { IfOk result.result (λ report. sum report.shares.items ≡ report.made) }
-    ensures healthy { OnOk result.result (NoneFailed D.failures D.outlook store result.store) }
-    ensures committed { IfOk result.result (λ report. (store_state D.state result.store).seq
-        ≡ (store_state D.state store).seq + report.made) }
-    ensures refused { IfErr result.result (IsFaultOf D.Disk store result.store) }
-    ensures lives { D.honest
-        → IsLedOn (store_state D.state store) (store_state D.state result.store) }
+    ensures { IsServed D.Disk store result.result result.store }
 {
     let Ok(door) = Door::new(listener) else {
         return failed(alloc, store, ServeFault::Listen);
@@ -179,13 +166,7 @@ fn begin<R: Threads + Wait + Sync, D: Disk + Drop, G: Gate + Sync, C: LifeClock 
     on_begun: &mut N,
 ) -> ServedLife<D>
     requires { length links.items ≤ 96 }
-    ensures shares { IfOk result.result (λ report. sum report.shares.items ≡ report.made) }
-    ensures healthy { OnOk result.result (NoneFailed D.failures D.outlook store result.store) }
-    ensures committed { IfOk result.result (λ report. (store_state D.state result.store).seq
-        ≡ (store_state D.state store).seq + report.made) }
-    ensures refused { IfErr result.result (IsFaultOf D.Disk store result.store) }
-    ensures lives { D.honest
-        → IsLedOn (store_state D.state store) (store_state D.state result.store) }
+    ensures { IsServed D.Disk store result.result result.store }
 {
     let core = match Core::new(context.alloc, store.table(), store.seq()) {
         Ok(core) => core,
@@ -204,9 +185,7 @@ fn begin<R: Threads + Wait + Sync, D: Disk + Drop, G: Gate + Sync, C: LifeClock 
 // The result of a life that isn't begun.
 fn failed<D: Disk>(alloc: Global, store: Store<D>, fault: ServeFault) -> ServedLife<D>
     requires { IsOfBeginning fault }
-    ensures store { result.store ≡ store }
-    ensures fault { result.result ≡ Err fault }
-    ensures refused { IfErr result.result (IsFaultOf D.Disk store result.store) }
+    ensures { IsServed D.Disk store result.result result.store }
 {
     ServedLife {
         store,
@@ -245,13 +224,7 @@ fn serve_life<
     requires taken { (taken.name ≡ B.taken_name) × (taken.parts ≡ 1) }
     requires core { core
         ≡ new_core (store_state D.state store).table (store_state D.state store).seq }
-    ensures shares { IfOk result.result (λ report. sum report.shares.items ≡ report.made) }
-    ensures healthy { OnOk result.result (NoneFailed D.failures D.outlook store result.store) }
-    ensures committed { IfOk result.result (λ report. (store_state D.state result.store).seq
-        ≡ (store_state D.state store).seq + report.made) }
-    ensures refused { IfErr result.result (IsFaultOf D.Disk store result.store) }
-    ensures lives { D.honest
-        → IsLedOn (store_state D.state store) (store_state D.state result.store) }
+    ensures { IsServed D.Disk store result.result result.store }
 {
     let all = places.links.len() as u64 + 1;
     let (mut shared, taker) = Shared::<B>::new(core, all, made, taken);
@@ -314,7 +287,14 @@ fn served_life<B: Books + Send + Sync, D: Disk + Drop>(
         None => Vec::new(alloc),
     };
     let result = match result {
-        Ok(taken) => report(alloc, sessions.into_inner(), &signals, all, seats, taken),
+        Ok(taken) => report(
+            alloc,
+            sessions.into_inner(),
+            &signals.counts,
+            all,
+            seats,
+            taken,
+        ),
         Err(refusal) => Err(ServeFault::Refused(refusal)),
     };
     ServedLife {
@@ -373,7 +353,7 @@ fn waiting_lines(alloc: Global, inlets: Vec<Inlet>) -> Result<Vec<WaitingLines>,
 fn report<B: Books>(
     alloc: Global,
     shared: Shared<B>,
-    signals: &Signals,
+    counts: &Counts,
     all: u64,
     seats: Vec<Seat<B>>,
     taken: u64,
@@ -395,10 +375,10 @@ fn report<B: Books>(
         return Err(ServeFault::Refused(Refusal::OutOfStep));
     }
     Ok(LifeReport {
-        dropped: signals.dropped(),
-        faulted: signals.faulted(),
-        taken_over: signals.taken_over(),
-        silent: signals.silent(),
+        dropped: counts.dropped.get(),
+        faulted: counts.faulted.get(),
+        taken_over: counts.taken_over.get(),
+        silent: counts.silent.get(),
         made,
         shares,
     })

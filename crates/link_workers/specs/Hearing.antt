@@ -10,15 +10,15 @@ use Rattle.link_messages.specs.declared.message.Peer.TheVariants.{Application}
 use Rattle.rtrb.specs.Ring.{sent, known_free}
 use Rattle.rtrb.specs.declared.producer.Producer.{Producer}
 use Rattle.session_core.specs.Seats.{SeatState, HasMade}
-use Rattle.session_core.specs.declared.seat.CallKind.TheVariants.{Asked, Heard}
+use Rattle.session_core.specs.declared.event.CallKind.TheVariants.{Asked, Heard}
 use Rattle.session_core.specs.declared.turn.Turn.{Turn}
 
--- A request is handed in, and refused as its turn says. A line that is no request is refused, and
+-- A request of an application is handed in as that application's, and refused as its turn says. A line that is no request is refused, and
 -- so is a line for which memory runs out; then nothing is handed in.
-abbrev pub IsAnswered : List ℕ → SeatState → SeatState → Option Refusal → Type 0
-IsAnswered line old new refused =
+abbrev pub IsAnswered : ℕ → List ℕ → SeatState → SeatState → Option Refusal → Type 0
+IsAnswered application line old new refused =
     (IsRequestLine line × ((moment : ℕ) × ((turn : Turn)
-    × (HasMade old new moment Asked turn × (refused ≡ turn.refused)))))
+    × (HasMade old new moment (Asked application) turn × (refused ≡ turn.refused)))))
     ⊎ ((new ≡ old) × ((refused ≡ Some OutOfMemory)
     ⊎ ((refused ≡ Some BadMessage) × ¬ (IsRequestLine line))))
 
@@ -31,13 +31,14 @@ IsTold (Some refusal) old new =
     (sent new ≡ sent old ++ refusal ∷ []) ⊎ ((sent new ≡ sent old) × (known_free new ≡ 0))
 
 -- how a message of this peer changes its worker's seat and the ring of refusals: a copy is handed
--- in, and a line is answered
+-- in as its gateway's, and a line is answered
 abbrev pub IsOneHeard : {A P : Type 0} → Option Peer → Message → SeatState → Producer Refusal A P
     → SeatState → Producer Refusal A P → Type 0
 IsOneHeard peer (Copy copy) seat told new_seat new_told =
-    ((moment : ℕ) × ((turn : Turn) × HasMade seat new_seat moment Heard turn)) × (new_told ≡ told)
+    ((moment : ℕ) × ((turn : Turn)
+    × HasMade seat new_seat moment (Heard copy.reception.gateway) turn)) × (new_told ≡ told)
 IsOneHeard (Some (Application application)) (Line line) seat told new_seat new_told =
-    (refused : Option Refusal) × (IsAnswered line seat new_seat refused
+    (refused : Option Refusal) × (IsAnswered application line seat new_seat refused
     × IsTold refused told new_told)
 IsOneHeard peer message seat told new_seat new_told = (new_seat ≡ seat) × (new_told ≡ told)
 

@@ -1,14 +1,14 @@
 // The closer, which closes the windows that are due.
 ghost use Rattle.std.specs.Prelude.{◌≡◌, ◌↔◌, IsTrue, None};
 ghost use Rattle.session_core.specs.Seats.{HasMade};
-ghost use Rattle.session_core.specs.declared.seat.CallKind.TheVariants.{Ticked};
+ghost use Rattle.session_core.specs.declared.event.CallKind.TheVariants.{Ticked};
 ghost use Rattle.session_core.specs.declared.turn.Turn.{Turn};
 
 use crate::context::Context;
 use crate::server::LiveServer;
 use dedup::WAIT;
 use server_links::{Gate, LifeClock, moment_of, moved_on};
-use session_core::{Books, Moment, Seat, Sessions};
+use session_core::{Books, Event, Moment, Seat, Sessions};
 use std::sync::Wait;
 
 // The pause before memory is asked for again, in milliseconds.
@@ -97,7 +97,8 @@ impl<'x, B: Books, R: Wait, G: Gate, C: LifeClock> Closer<'x, B, R, G, C> {
             × (IsTrue result ↔ (turn.refused ≡ None))) }
         ensures same { self.new ≡ record self.old { seat = self.new.seat } }
     {
-        let turn = self.server.tick(self.context.rt, &mut self.seat, moment);
+        let rt = self.context.rt;
+        let turn = self.server.handle(rt, &mut self.seat, moment, Event::Tick);
         if turn.from < turn.to {
             self.server.signals.tell_frames();
         }

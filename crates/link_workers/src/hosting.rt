@@ -4,21 +4,21 @@ ghost use Rattle.directory.specs.Linked.{IsHeld};
 ghost use Rattle.link_workers.specs.Named.{IsFarewell, peer_name};
 
 use crate::reading::{Incoming, PIECE, Worker, read_some, recipient_of};
+use crate::threads::start;
 use directory::{HeldName, LeftName};
 use gateway_wire::Recipient;
 use link_messages::{Fed, Feeder};
 use lw_types::Refusal;
 use rtrb::{Consumer, RingBuffer};
 use server_links::{
-    Call, Ending, Gate, HostSender, LifeClock, PLACES, STACK, drop_all, moved_on, set_options,
+    Call, Ending, Gate, HostSender, LifeClock, PLACES, drop_all, moved_on, set_options,
 };
 use session_core::{Books, Moment, Seat};
 use sights::Sight;
-use std::alloc::Global;
 use std::net::TcpStream;
 use std::sync::Wait;
 use std::thread;
-use std::thread::{Builder, JoinHandle, Scope, Threads};
+use std::thread::{Scope, Threads};
 use std::time::Duration;
 
 // The time in which a link has to greet, in milliseconds.
@@ -147,7 +147,7 @@ impl<'x, B: Books, R: Threads + Wait + Sync, G: Gate, C: LifeClock> Host<'x, B, 
             lost = drop_all(&mut spare.inlet);
         }
         if lost > 0 {
-            self.worker.server.signals.count_dropped(lost);
+            self.worker.server.signals.counts.dropped.add(lost);
             self.worker.server.tell(rt, Sight::Dropped(name, lost));
         }
     }
@@ -175,27 +175,12 @@ fn hold<'s, 'x: 's, E, B: Books, R: Threads + Wait + Sync, G: Gate, C: LifeClock
         link: worker.link,
         call,
     };
-    let sender = start_host_sender(context.alloc, scope, worker.number, sender, refusals);
+    let name = format!(in context.alloc; "link-{number}-out", number = worker.number);
+    let sender = start(scope, name, move || sender.run(refusals));
     if sender.is_some() && worker.hear_all(fed) {
         worker.read(&call.stream);
     }
     worker.end_link(held)
-}
-
-// Starts the sender of one link of a place; `None` if that fails.
-fn start_host_sender<'x, E, R: Wait + Sync>(
-    alloc: Global,
-    scope: &Scope<'x, E>,
-    number: usize,
-    sender: HostSender<'x, R>,
-    refusals: Consumer<Refusal>,
-) -> Option<JoinHandle<()>> {
-    let name = format!(in alloc; "link-{number}-out").ok()?;
-    Builder::new()
-        .name(name)
-        .stack_size(STACK)
-        .spawn_scoped(scope, move || sender.run(refusals))
-        .ok()
 }
 
 // How long a read waits until this moment, in milliseconds. After this moment a read still takes
@@ -225,7 +210,7 @@ impl<'x, B: Books, R: Wait, G: Gate, C: LifeClock> Worker<'x, B, R, G, C> {
             match incoming {
                 Incoming::Nothing => {}
                 Incoming::Late => {
-                    self.server.signals.count_silent();
+                    self.server.signals.counts.silent.add(1);
                     self.server.tell(self.context.rt, Sight::Silent);
                     break;
                 }
@@ -278,7 +263,7 @@ impl<'x, B: Books, R: Wait, G: Gate, C: LifeClock> Worker<'x, B, R, G, C> {
             if let Some(link) = self.server.links.get(older) {
                 link.take(rt);
             }
-            self.server.signals.count_taken_over();
+            self.server.signals.counts.taken_over.add(1);
             self.server.tell(rt, Sight::TakenOver(*name));
         }
         self.server.tell(rt, Sight::Linked(*name));

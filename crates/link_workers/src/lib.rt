@@ -11,6 +11,7 @@ mod observing;
 mod reading;
 mod server;
 mod status;
+mod threads;
 
 pub use attending::{Attendant, BUSY, WATCHING};
 pub use closing::Closer;
@@ -18,3 +19,4 @@ pub use context::Context;
 pub use hosting::Host;
 pub use reading::Worker;
 pub use server::LiveServer;
+pub use threads::start;

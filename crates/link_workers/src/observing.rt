@@ -1,14 +1,12 @@
 // The life's calls of its sessions, and what operators see of them.
 ghost use Rattle.std.specs.Prelude.{◌≡◌, IsSome, IsTrue, option_map};
 ghost use Rattle.std.specs.Option.{option_copied};
+ghost use Rattle.session_core.specs.Calls.{kind_of};
 ghost use Rattle.session_core.specs.Seats.{HasMade};
-ghost use Rattle.session_core.specs.declared.seat.CallKind.TheVariants.{Asked, Heard, Ticked};
 
 use crate::server::LiveServer;
-use devices::ApplicationCommand;
-use lw_types::FrameCopy;
 use server_links::Watch;
-use session_core::{Books, ClosedFrame, Moment, Seat, Turn};
+use session_core::{Books, ClosedFrame, Event, Handled, Moment, Seat, Sessions, Turn};
 use sights::Sight;
 use std::sync::Wait;
 
@@ -34,50 +32,17 @@ impl<B: Books> LiveServer<B> {
         }
     }
 
-    /// A gateway heard a frame.
-    pub(crate) fn hear<R: Wait>(
+    /// An event comes. Operators are sent the frames whose windows it closed.
+    pub(crate) fn handle<R: Wait>(
         &self,
         rt: &R,
         seat: &mut Seat<B>,
         moment: Moment,
-        copy: FrameCopy,
+        event: Event,
     ) -> Turn
-        ensures share { HasMade seat.old seat.new moment Heard result }
+        ensures share { HasMade seat.old seat.new moment (kind_of event) result }
     {
-        let mut sessions = self.sessions.lock(rt);
-        let turn = sessions.hear(seat, moment, copy);
-        let closed = sessions.take_closed();
-        drop(sessions);
-        self.tell_closed(rt, moment, closed);
-        turn
-    }
-
-    /// An application asks for a command.
-    pub(crate) fn ask<R: Wait>(
-        &self,
-        rt: &R,
-        seat: &mut Seat<B>,
-        moment: Moment,
-        asked: ApplicationCommand,
-    ) -> Turn
-        ensures share { HasMade seat.old seat.new moment Asked result }
-    {
-        let mut sessions = self.sessions.lock(rt);
-        let turn = sessions.ask(seat, moment, asked);
-        let closed = sessions.take_closed();
-        drop(sessions);
-        self.tell_closed(rt, moment, closed);
-        turn
-    }
-
-    /// Time passes.
-    pub(crate) fn tick<R: Wait>(&self, rt: &R, seat: &mut Seat<B>, moment: Moment) -> Turn
-        ensures share { HasMade seat.old seat.new moment Ticked result }
-    {
-        let mut sessions = self.sessions.lock(rt);
-        let turn = sessions.tick(seat, moment);
-        let closed = sessions.take_closed();
-        drop(sessions);
+        let Handled { turn, closed } = self.sessions.handle(rt, seat, moment, event);
         self.tell_closed(rt, moment, closed);
         turn
     }

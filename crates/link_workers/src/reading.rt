@@ -8,7 +8,7 @@ ghost use Rattle.link_workers.specs.Hearing.{AreHeard, IsAnswered, IsOneHeard, I
 ghost use Rattle.link_workers.specs.Named.{peer_name};
 ghost use Rattle.lw_types.specs.declared.identifiers.Eui.{Eui};
 ghost use Rattle.session_core.specs.Seats.{HasMade};
-ghost use Rattle.session_core.specs.declared.seat.CallKind.TheVariants.{Asked, Heard};
+ghost use Rattle.session_core.specs.declared.event.CallKind.TheVariants.{Asked, Heard};
 ghost use Rattle.session_core.specs.declared.turn.Turn.{Turn};
 
 use crate::context::Context;
@@ -19,7 +19,7 @@ use link_messages::{Fed, Feeder, Line, Message, Peer};
 use lw_types::{FrameCopy, Refusal};
 use rtrb::Producer;
 use server_links::{Gate, LifeClock, Link, Socket};
-use session_core::{Books, Seat, Turn};
+use session_core::{Books, Event, Seat, Turn};
 use sights::{FrameName, Sight};
 use std::io::{ErrorKind, Read};
 use std::net::TcpStream;
@@ -186,7 +186,7 @@ impl<'x, B: Books, R: Wait, G: Gate, C: LifeClock> Worker<'x, B, R, G, C> {
 
     /// Counts the link as faulted: it is read no further because of what it sent.
     pub(crate) fn count_fault(&self) {
-        self.server.signals.count_fault();
+        self.server.signals.counts.faulted.add(1);
         let name = self.feeder.peer().map(|peer| recipient_of(&peer));
         self.server.tell(self.context.rt, Sight::Faulted(name));
     }
@@ -275,7 +275,7 @@ impl<'x, B: Books, R: Wait, G: Gate, C: LifeClock> Worker<'x, B, R, G, C> {
     fn hear_copy(&mut self, copy: FrameCopy)
         ensures counted { self.old.calls + 1 < 2 ^ 64 → self.new.calls ≡ self.old.calls + 1 }
         ensures heard { (moment : ℕ) × ((turn : Turn)
-            × HasMade self.old.seat self.new.seat moment Heard turn) }
+            × HasMade self.old.seat self.new.seat moment (Heard copy.reception.gateway) turn) }
         ensures same { self.new ≡ record self.old
             { seat = self.new.seat; calls = self.new.calls } }
     {
@@ -289,7 +289,8 @@ impl<'x, B: Books, R: Wait, G: Gate, C: LifeClock> Worker<'x, B, R, G, C> {
         } else {
             FrameName::Other
         };
-        let turn = self.server.hear(rt, &mut self.seat, moment, copy);
+        let event = Event::Hear(copy);
+        let turn = self.server.handle(rt, &mut self.seat, moment, event);
         if let Some(refusal) = turn.refused {
             let sight = Sight::of_copy(refusal, name, reception);
             self.server.tell(rt, sight);
@@ -318,7 +319,7 @@ impl<'x, B: Books, R: Wait, G: Gate, C: LifeClock> Worker<'x, B, R, G, C> {
 
     // Handles a line. Returns why it is refused, if it is.
     fn answer(&mut self, application: Application, line: &Line) -> Option<Refusal>
-        ensures answered { IsAnswered line.now self.old.seat self.new.seat result }
+        ensures answered { IsAnswered application line.now self.old.seat self.new.seat result }
         ensures same { self.new ≡ record self.old
             { seat = self.new.seat; calls = self.new.calls } }
     {
@@ -341,16 +342,16 @@ impl<'x, B: Books, R: Wait, G: Gate, C: LifeClock> Worker<'x, B, R, G, C> {
     fn ask(&mut self, application: Application, request: Request) -> Option<Refusal>
         ensures counted { self.old.calls + 1 < 2 ^ 64 → self.new.calls ≡ self.old.calls + 1 }
         ensures asked { (moment : ℕ) × ((turn : Turn)
-            × (HasMade self.old.seat self.new.seat moment Asked turn × (result ≡ turn.refused))) }
+            × (HasMade self.old.seat self.new.seat moment (Asked application) turn
+            × (result ≡ turn.refused))) }
         ensures same { self.new ≡ record self.old
             { seat = self.new.seat; calls = self.new.calls } }
     {
         self.pass_gate();
         let moment = self.context.clock.now();
-        let asked = request.asked_by(application);
-        let turn = self
-            .server
-            .ask(self.context.rt, &mut self.seat, moment, asked);
+        let event = Event::Ask(request.into_command(application));
+        let rt = self.context.rt;
+        let turn = self.server.handle(rt, &mut self.seat, moment, event);
         if has_decided(&turn) {
             self.server.signals.ring_flusher();
         }

@@ -65,7 +65,7 @@ impl<B: Books> LiveServer<B> {
     pub fn drop_lines<R: Wait>(&self, rt: &R) {
         for lines in &self.lines {
             if let Some(inlet) = lines.lock(rt).as_mut() {
-                self.signals.count_dropped(drop_all(inlet));
+                self.signals.counts.dropped.add(drop_all(inlet));
             }
         }
     }

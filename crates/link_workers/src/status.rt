@@ -95,13 +95,13 @@ pub(crate) fn status_text<B: Books, R: Wait>(
     }
     add_links(rt, server, &mut lines);
     add_sessions(rt, server, &mut lines);
-    let signals = &server.signals;
+    let counts = &server.signals.counts;
     lines.add_counts(&[
-        ("commits", signals.commits()),
-        ("dropped", signals.dropped()),
-        ("faulted", signals.faulted()),
-        ("taken_over", signals.taken_over()),
-        ("silent", signals.silent()),
+        ("commits", counts.commits.get()),
+        ("dropped", counts.dropped.get()),
+        ("faulted", counts.faulted.get()),
+        ("taken_over", counts.taken_over.get()),
+        ("silent", counts.silent.get()),
     ]);
     if let Some(times) = times {
         lines.add_counts(&[

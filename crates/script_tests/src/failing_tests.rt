@@ -3,9 +3,9 @@
 use crate::plays::{MAKING, SCRIPTS, SLOTS, are_left, images, played, steps_of};
 use disk::Sim;
 use lw_types::Refusal;
-use plain_world::worlds::{answers_of_model, first_other, net_id, new_disk};
 use std::alloc::Global;
 use world::{Answer, Step};
+use world_model::worlds::{answers_of_model, first_other, net_id, new_disk};
 
 // More calls than a script makes.
 const MOST: u64 = 100;

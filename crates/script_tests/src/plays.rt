@@ -3,11 +3,11 @@ use crate::images::{Found, found_in};
 use devices::Device;
 use disk::{Image, MemDisk, Sim};
 use lw_types::{Eui, Refusal};
-use plain_world::letters::add_letters;
-use plain_world::worlds::{net_id, new_disk};
 use std::alloc::Global;
 use store::{Store, open};
 use world::{Answer, Step, World, run};
+use world_model::letters::add_letters;
+use world_model::worlds::{net_id, new_disk};
 
 /// Scripts of two areas and of chains: the first run, with checkpoints of four calls and of six;
 /// one that is cut and begun again; two batches that share a sync; and a join, which is written as

@@ -4,6 +4,7 @@
 #![tactic(auto)]
 
 mod control;
+mod counts;
 mod door;
 mod fault;
 mod gate;
@@ -21,6 +22,7 @@ mod watching;
 mod writing;
 
 pub use control::{ATTENDANTS, ControlSocket};
+pub use counts::{Count, Counts};
 pub use door::Door;
 pub use fault::ServeFault;
 pub use gate::{Gate, NobodyTold, OnBegun, OpenGate};

@@ -1,5 +1,6 @@
 // The signals between the threads of a life. A thread that waits checks first, finds nothing, and
 // parks. A thread that rings changes something first, and then rings. So no change is missed.
+use crate::counts::Counts;
 use std::sync::Wait;
 use std::sync::atomic::Ordering::SeqCst;
 use std::sync::atomic::{AtomicBool, AtomicU64};
@@ -9,12 +10,7 @@ use std::thread::Parker;
 pub struct Signals {
     // The number of workers that may still hand something in.
     open_inputs: AtomicU64,
-    faulted: AtomicU64,
-    dropped: AtomicU64,
-    taken_over: AtomicU64,
-    silent: AtomicU64,
-    // How often decisions became durable.
-    commits: AtomicU64,
+    pub counts: Counts,
     // The number of links in their places.
     linked: AtomicU64,
     // Everything of the life is done, except for the operators.
@@ -43,11 +39,7 @@ impl Signals {
     pub fn new(inputs: u64) -> Self {
         Signals {
             open_inputs: AtomicU64::new(inputs),
-            faulted: AtomicU64::new(0),
-            dropped: AtomicU64::new(0),
-            taken_over: AtomicU64::new(0),
-            silent: AtomicU64::new(0),
-            commits: AtomicU64::new(0),
+            counts: Counts::zero(),
             linked: AtomicU64::new(0),
             closed: AtomicBool::new(false),
             ending: AtomicBool::new(false),
@@ -58,51 +50,6 @@ impl Signals {
             decided: Parker::new(),
             opened: Parker::new(),
         }
-    }
-
-    /// Counts a link that is read no further because of what it sent.
-    pub fn count_fault(&self) {
-        self.faulted.fetch_add(1, SeqCst);
-    }
-
-    pub fn faulted(&self) -> u64 {
-        self.faulted.load(SeqCst)
-    }
-
-    /// Counts this number of effects as lost, since they found no link or no room.
-    pub fn count_dropped(&self, count: u64) {
-        self.dropped.fetch_add(count, SeqCst);
-    }
-
-    pub fn dropped(&self) -> u64 {
-        self.dropped.load(SeqCst)
-    }
-
-    /// Counts a link that lost its name to a later link.
-    pub fn count_taken_over(&self) {
-        self.taken_over.fetch_add(1, SeqCst);
-    }
-
-    pub fn taken_over(&self) -> u64 {
-        self.taken_over.load(SeqCst)
-    }
-
-    /// Counts a link that didn't greet in time.
-    pub fn count_silent(&self) {
-        self.silent.fetch_add(1, SeqCst);
-    }
-
-    pub fn silent(&self) -> u64 {
-        self.silent.load(SeqCst)
-    }
-
-    /// Counts that decisions became durable.
-    pub fn count_commit(&self) {
-        self.commits.fetch_add(1, SeqCst);
-    }
-
-    pub fn commits(&self) -> u64 {
-        self.commits.load(SeqCst)
     }
 
     /// Counts a link that came into a place.

@@ -134,7 +134,7 @@ impl<'x, R: Wait> Sender<'x, R> {
         if lost == 0 {
             return;
         }
-        self.signals.count_dropped(lost);
+        self.signals.counts.dropped.add(lost);
         if let (Some(watch), Some(name)) = (self.watch, self.name) {
             watch.tell(self.rt, Sight::Dropped(*name, lost));
         }

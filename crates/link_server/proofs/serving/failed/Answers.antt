@@ -1,5 +1,14 @@
+use Rattle.std.proofs.Common.{[]}
 use Rattle.link_server.proofs.Ending.{unbegun}
 use Rattle.link_server.proofs.serving.failed.Goals as goal
 
-pub returns-clause-refused : goal.returns-clause-refused
-returns-clause-refused g c = unbegun g.D.Disk c.args.store c.args.fault c.requires
+-- nothing has happened to the store
+pub returns : goal.returns
+returns g c =
+    record {
+      shares = tt {0};
+      healthy = tt {0};
+      committed = tt {0};
+      refused = unbegun g.D.Disk c.args.store c.args.fault c.requires;
+      lives = λ honest t number lives led. ([], led);
+    }

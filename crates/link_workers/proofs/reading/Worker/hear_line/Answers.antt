@@ -21,7 +21,7 @@ returns-clause-heard g c =
     let after = c.tell_asker.new.self in
     let only = rw c.in-Some.is at c.asking.ensures.only in
     let peer : before.feeder.peer ≡ Some (Application c.in-Some.application) = sym c.peer.ensures ∙ only in
-    let answered : IsAnswered c.args.line.now before.seat after.seat c.answer-refused.result = rw c.tell_asker.ensures.same c.answer-refused.ensures.answered in
+    let answered : IsAnswered c.in-Some.application c.args.line.now before.seat after.seat c.answer-refused.result = rw c.tell_asker.ensures.same c.answer-refused.ensures.answered in
     let told = rw c.answer-refused.ensures.same at c.tell_asker.ensures.told in
     subst (λ (p : Option Peer). IsOneHeard p (Line c.args.line.now) before.seat before.refusals after.seat after.refusals) (sym peer)
     (c.answer-refused.result, (answered, told))
