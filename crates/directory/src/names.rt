@@ -71,7 +71,8 @@ pub struct Full;
 
 impl Directory {
     ghost use Rattle.std.specs.Prelude.{◌≡◌, ◌≢◌, ◌↔◌, ◌<◌, Some, IsSome, None, IfOk, IsOk, IsTrue};
-    ghost use Rattle.std.specs.Prelude.{MatchBool, MatchResult};
+    ghost use Rattle.std.specs.Prelude.{IfSome, MatchBool, MatchResult};
+    ghost use Rattle.std.specs.Option.{MatchOption};
     ghost use Rattle.gateway_wire.specs.declared.recipient.Recipient.TheVariants as names;
     ghost use Rattle.lw_types.specs.declared.identifiers.Eui.{Eui};
     ghost use Rattle.directory.specs.Linked.{gateway_link, link_of, ring_of};
@@ -93,14 +94,18 @@ impl Directory {
     }
 
     /// Gives a link the name with which a gateway or an application greets, if no link has this
-    /// name and, for a gateway, fewer than 64 have links. Returns whether it did; otherwise nothing
-    /// is changed.
-    pub fn greet(&mut self, name: &Recipient, link: usize) -> bool
-        ensures granted { result ≡ may_greet self.old name.now }
-        ensures named { MatchBool result (IsLinked self.old name.now link self.new)
-            (self.new ≡ self.old) }
+    /// name and, for a gateway, fewer than 64 have links. Otherwise nothing is changed.
+    pub fn greet(&mut self, name: &Recipient, link: usize) -> Option<HeldName>
+        ensures granted { IsSome result ↔ IsTrue (may_greet self.old name.now) }
+        ensures held { IfSome result (IsHeld name.now link) }
+        ensures named { MatchOption result (self.new ≡ self.old)
+            (λ _. IsLinked self.old name.now link self.new) }
     {
-        self.link_of(name).is_none() && self.take_over(name, link).is_ok()
+        if self.link_of(name).is_some() {
+            return None;
+        }
+        let (held, _) = self.take_over(name, link).ok()?;
+        Some(held)
     }
 
     /// Gives a link the name with which a gateway or an application greets, and returns the link

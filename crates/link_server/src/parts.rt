@@ -1,24 +1,23 @@
 // What the threads of a life own before they are started.
-ghost use Rattle.std.specs.Prelude.{◌≡◌, ◌+◌, ◌++◌, List, length, map, All, IfErr, IfOk};
+ghost use Rattle.std.specs.Prelude.{◌≡◌, ◌+◌, ◌++◌, List, length, map, IfErr, IfOk};
 ghost use Rattle.lw_types.specs.declared.refusal.Refusal.TheVariants.{OutOfMemory};
-ghost use Rattle.link_server.specs.Rings.{AreNewRings, IsNewRingOfRefusals};
+ghost use Rattle.link_server.specs.Rings.{AreNewRings};
 
 use directory::APPLICATIONS;
 use lw_types::Refusal;
 use outbox::{Inlet, Outlet, ring};
-use rtrb::{Consumer, Producer, RingBuffer};
+use rtrb::{Producer, RingBuffer};
 use server_links::PLACES;
 use session_core::{Books, Seat, Shared};
 use std::alloc::Global;
 
-/// What the two threads of a link own. The worker has a seat, and the end of a ring into which
-/// refusals go. The sender has the ends from which effects and refusals come.
+/// What the worker of a place and its senders own: a seat; the end of a ring into which refusals
+/// go, until the first link comes; and the end from which effects come.
 #[derive(Drop)]
 pub(crate) struct LinkParts<B: Books> {
     pub(crate) seat: Seat<B>,
     pub(crate) refused: Producer<Refusal>,
     pub(crate) inlet: Inlet,
-    pub(crate) refusals: Consumer<Refusal>,
 }
 
 /// The parts of each link's threads, the closer's seat, and the flusher's outlets: one for each
@@ -38,22 +37,19 @@ impl<B: Books> Parts<B> {
         ensures links { IfOk result (λ parts. length parts.links.items ≡ links) }
         ensures rings { IfOk result (λ parts. AreNewRings PLACES parts.outlets.items
             (map (λ (link : LinkParts B). link.inlet) parts.links.items)) }
-        ensures refusals { IfOk result (λ parts. All (λ (link : LinkParts B).
-            IsNewRingOfRefusals PLACES link.refused link.refusals) parts.links.items) }
         ensures refused { IfErr result (λ e. e ≡ OutOfMemory) }
     {
         let mut all = Vec::new(alloc);
         let mut outlets = Vec::new(alloc);
         for _number in 0..links {
             let (outlet, inlet) = ring(alloc, PLACES)?;
-            let (refused, refusals) = RingBuffer::new(alloc, PLACES)?;
+            let (refused, _) = RingBuffer::new(alloc, 1)?;
             let seat = shared.seat();
             outlets.push(outlet)?;
             all.push(LinkParts {
                 seat,
                 refused,
                 inlet,
-                refusals,
             })?;
         }
         Ok(Parts {

@@ -8,7 +8,7 @@ use crate::parts::{LinkParts, Parts};
 use disk::Disk;
 use link_workers::{Attendant, Closer, Context, Host, LiveServer, Worker, start};
 use lw_types::Refusal;
-use server_links::{ATTENDANTS, Gate, LifeClock, OnBegun, Outgoing, Sender, Socket, Spare};
+use server_links::{ATTENDANTS, Gate, LifeClock, OnBegun, Outgoing, Spare};
 use session_core::{Books, Seat, Taker};
 use std::alloc::Global;
 use std::sync::Wait;
@@ -119,20 +119,17 @@ fn run_in<
 struct Started<B: Books> {
     // In the order of their links; the closer comes last.
     seated: Vec<JoinHandle<Seat<B>>>,
-    senders: Vec<JoinHandle<()>>,
     attendants: Vec<JoinHandle<()>>,
     is_whole: bool,
 }
 
 impl<B: Books + Send + Sync> Started<B> {
     fn new(alloc: Global) -> Self
-        ensures none { (result.seated.items ≡ []) × ((result.senders.items ≡ [])
-            × (result.attendants.items ≡ [])) }
+        ensures none { (result.seated.items ≡ []) × (result.attendants.items ≡ []) }
         ensures whole { IsTrue result.is_whole }
     {
         Started {
             seated: Vec::new(alloc),
-            senders: Vec::new(alloc),
             attendants: Vec::new(alloc),
             is_whole: true,
         }
@@ -153,36 +150,13 @@ impl<B: Books + Send + Sync> Started<B> {
             seat,
             refused,
             inlet,
-            refusals,
         } = parts;
-        let worker = Worker::new(context, server, link, number, seat, refused);
-        let reader = format!(in context.alloc; "link-{number}-in");
         let outgoing = Outgoing::new(context.alloc);
-        let Socket::Fixed(stream) = &link.socket else {
-            link.set_spare(context.rt, Spare { inlet, outgoing });
-            let host = Host { worker };
-            self.keep_seated(start(scope, reader, move || host.run()));
-            return;
-        };
-        self.keep_seated(start(scope, reader, move || worker.run()));
-        let sender = Sender {
-            rt: context.rt,
-            alloc: context.alloc,
-            signals: &server.signals,
-            watch: server.watch(),
-            link,
-            stream,
-            name: None,
-            inlet,
-            refusals,
-            outgoing,
-            keeps: false,
-            is_broken: false,
-        };
-        let name = format!(in context.alloc; "link-{number}-out");
-        self.keep_sender(start(scope, name, move || {
-            let _ = sender.run();
-        }));
+        link.set_spare(context.rt, Spare { inlet, outgoing });
+        let worker = Worker::new(context, server, link, number, seat, refused);
+        let host = Host { worker };
+        let name = format!(in context.alloc; "link-{number}-in");
+        self.keep_seated(start(scope, name, move || host.run()));
     }
 
     fn start_attendants<'s, E, R: Threads + Wait + Sync, G: Gate + Sync, C: LifeClock + Sync>(
@@ -221,15 +195,6 @@ impl<B: Books + Send + Sync> Started<B> {
         self.is_whole = keep_thread(&mut self.seated, thread) && self.is_whole;
     }
 
-    fn keep_sender(&mut self, thread: Option<JoinHandle<()>>)
-        ensures whole { IsTrue self.new.is_whole → IsTrue self.old.is_whole × IsSomeAnd thread
-            (λ one. self.new.senders.items ≡ self.old.senders.items ++ one ∷ []) }
-        ensures same { self.new ≡ record self.old
-            { senders = self.new.senders; is_whole = self.new.is_whole } }
-    {
-        self.is_whole = keep_thread(&mut self.senders, thread) && self.is_whole;
-    }
-
     fn keep_attendant(&mut self, thread: Option<JoinHandle<()>>)
         ensures whole { IsTrue self.new.is_whole → IsTrue self.old.is_whole × IsSomeAnd thread
             (λ one. self.new.attendants.items ≡ self.old.attendants.items ++ one ∷ []) }
@@ -248,16 +213,12 @@ impl<B: Books + Send + Sync> Started<B> {
     ) -> Vec<Seat<B>> {
         let Started {
             seated,
-            senders,
             attendants,
             ..
         } = self;
         let mut seats = Vec::new(alloc);
         for thread in seated {
             let _ = seats.push(thread.join(rt));
-        }
-        for thread in senders {
-            thread.join(rt);
         }
         server.drop_lines(rt);
         server.close(rt);

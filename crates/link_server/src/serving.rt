@@ -1,6 +1,6 @@
 // One life of a server.
 ghost use Rattle.std.specs.Prelude.{◌≡◌, ◌≢◌, ◌≤◌, ◌+◌, length, sum, Err, IfErr, IfOk};
-ghost use Rattle.std.specs.Prelude.{map, option_map, MatchResult};
+ghost use Rattle.std.specs.Prelude.{cond, map, MatchResult, None, Some};
 ghost use Rattle.lw_types.specs.declared.refusal.Refusal.TheVariants.{OutOfMemory, OutOfStep};
 ghost use Rattle.server_links.specs.declared.fault.ServeFault.TheVariants.{Refused};
 ghost use Rattle.server_links.specs.Faults.{IsOfBeginning};
@@ -17,8 +17,8 @@ use link_workers::{Context, LiveServer};
 use lw_types::Refusal;
 use outbox::Inlet;
 use server_links::{
-    ControlSocket, Counts, Door, Gate, LifeClock, Link, LinkCount, NobodyTold, OnBegun, PlaceCount,
-    ServeFault, Signals, WaitingLines, accept, empty_places,
+    ControlSocket, Counts, Door, Entrance, Gate, LifeClock, Link, LinkCount, NobodyTold, OnBegun,
+    PlaceCount, Policy, ServeFault, Signals, WaitingLines, accept, empty_places,
 };
 use session_core::{Books, Core, Seat, Shared};
 use std::alloc::Global;
@@ -77,10 +77,11 @@ pub fn serve_links<
 ) -> ServedLife<D>
     ensures { IsServed D.Disk store result.result result.store }
 {
-    let links = match accept(alloc, listener, links) {
-        Ok(links) => links,
+    let streams = match accept(alloc, listener, links) {
+        Ok(streams) => streams,
         Err(fault) => return failed(alloc, store, fault),
     };
+    let count = streams.len() as u64;
     let context = Context {
         rt,
         alloc,
@@ -88,7 +89,12 @@ pub fn serve_links<
         clock,
         times: None,
     };
-    begin(&context, store, links, None, None, &mut NobodyTold)
+    let entry = Entry {
+        entrance: Entrance::Filled(streams),
+        policy: ONCE,
+        control: None,
+    };
+    begin(&context, store, count, entry, &mut NobodyTold)
 }
 
 /// Serves links that come in through a listener, as many at a time as there are places, until the
@@ -142,10 +148,6 @@ pub fn serve_on<
         Ok(control) => control,
         Err(fault) => return failed(alloc, store, fault),
     };
-    let links = match empty_places(alloc, count) {
-        Ok(links) => links,
-        Err(refusal) => return failed(alloc, store, ServeFault::Refused(refusal)),
-    };
     let context = Context {
         rt,
         alloc,
@@ -153,31 +155,59 @@ pub fn serve_on<
         clock,
         times: Some(times),
     };
-    begin(&context, store, links, Some(door), Some(control), on_begun)
+    let entry = Entry {
+        entrance: Entrance::Open(door),
+        policy: ANEW,
+        control: Some(control),
+    };
+    begin(&context, store, count.get(), entry, on_begun)
 }
 
-// Begins a life with these links.
+// A life whose links come before it begins, and stay.
+const ONCE: Policy = Policy {
+    greeting_wait: None,
+    takes_over: false,
+    keeps_links: true,
+    lines_wait: false,
+};
+
+// A life whose links come and go.
+const ANEW: Policy = Policy {
+    greeting_wait: Some(10_000),
+    takes_over: true,
+    keeps_links: false,
+    lines_wait: true,
+};
+
+// Where the links of a life and its operators come from, and what it does with its links.
+#[derive(Drop)]
+struct Entry {
+    entrance: Entrance,
+    policy: Policy,
+    control: Option<ControlSocket>,
+}
+
+// Begins a life with this number of places.
 fn begin<R: Threads + Wait + Sync, D: Disk + Drop, G: Gate + Sync, C: LifeClock + Sync, N: OnBegun>(
     context: &Context<'_, R, G, C>,
     store: Store<D>,
-    links: Vec<Link>,
-    door: Option<Door>,
-    control: Option<ControlSocket>,
+    count: u64,
+    entry: Entry,
     on_begun: &mut N,
 ) -> ServedLife<D>
-    requires { length links.items ≤ 96 }
+    requires { count ≤ 96 }
     ensures { IsServed D.Disk store result.result result.store }
 {
     let core = match Core::new(context.alloc, store.table(), store.seq()) {
         Ok(core) => core,
         Err(refusal) => return failed(context.alloc, store, ServeFault::Refused(refusal)),
     };
-    let seats = links.len() as u64 + 1;
-    let places = Places {
-        links,
-        door,
-        control,
+    let links = match empty_places(context.alloc, count) {
+        Ok(links) => links,
+        Err(refusal) => return failed(context.alloc, store, ServeFault::Refused(refusal)),
     };
+    let seats = links.len() as u64 + 1;
+    let places = Places { links, entry };
     let (made, taken) = (Blank::new(seats), Blank::new(1));
     serve_life::<Brand, R, D, G, C, N>(context, store, places, core, made, taken, on_begun)
 }
@@ -194,12 +224,11 @@ fn failed<D: Disk>(alloc: Global, store: Store<D>, fault: ServeFault) -> ServedL
     }
 }
 
-// The links of a life, and the sockets for links and operators.
+// The places of a life, and what comes into it.
 #[derive(Drop)]
 struct Places {
     links: Vec<Link>,
-    door: Option<Door>,
-    control: Option<ControlSocket>,
+    entry: Entry,
     ghost few: { length links.items ≤ 96 },
 }
 
@@ -228,7 +257,7 @@ fn serve_life<
 {
     let all = places.links.len() as u64 + 1;
     let (mut shared, taker) = Shared::<B>::new(core, all, made, taken);
-    if places.control.is_some() {
+    if places.entry.control.is_some() {
         shared.observe();
     }
     let Equipment {
@@ -239,15 +268,17 @@ fn serve_life<
         Ok(equipment) => equipment,
         Err(refusal) => return failed(context.alloc, store, ServeFault::Refused(refusal)),
     };
-    let Places {
-        links,
-        door,
+    let Places { links, entry } = places;
+    let Entry {
+        entrance,
+        policy,
         control,
-    } = places;
+    } = entry;
     let server = LiveServer {
         signals: Signals::new(links.len() as u64),
         links,
-        door,
+        entrance,
+        policy,
         control,
         sessions: Mutex::new(shared),
         directory: Mutex::new(directory),
@@ -312,17 +343,16 @@ struct Equipment<B: Books> {
 }
 
 impl<B: Books> Equipment<B> {
-    // No links yet. If links come and go, applications have rings of their own, after those of the
-    // links.
+    // No links yet. If lines wait, applications have rings of their own, after those of the links.
     fn new(alloc: Global, shared: &mut Shared<B>, places: &Places) -> Result<Self, Refusal>
         requires { shared.old.left ≡ length places.now.links.items + 1 }
         ensures rings { IfOk result (λ equipment. equipment.directory.first_ring
-            ≡ option_map (λ _. length places.now.links.items) places.now.door) }
+            ≡ cond places.now.entry.policy.lines_wait (Some (length places.now.links.items)) None) }
         ensures refused { IfErr result (λ e. e ≡ OutOfMemory) }
     {
         let links = places.links.len();
         let mut parts = Parts::new(alloc, shared, links)?;
-        let (first_ring, lines) = if places.door.is_some() {
+        let (first_ring, lines) = if places.entry.policy.lines_wait {
             let inlets = parts.add_lines(alloc)?;
             (Some(links as u16), waiting_lines(alloc, inlets)?)
         } else {

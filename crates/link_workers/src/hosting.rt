@@ -1,4 +1,4 @@
-// The worker of a life whose links come and go, which takes one link after another.
+// The worker of a place, which takes one link after another.
 ghost use Rattle.std.specs.Prelude.{◌≡◌, ◌-◌, IfSome, IsTrue, Some, max, option_map};
 ghost use Rattle.directory.specs.Linked.{IsHeld};
 ghost use Rattle.link_workers.specs.Named.{IsFarewell, peer_name};
@@ -21,9 +21,6 @@ use std::thread;
 use std::thread::{Scope, Threads};
 use std::time::Duration;
 
-// The time in which a link has to greet, in milliseconds.
-const GREETING_WAIT: u64 = 10_000;
-
 // How long a read waits after that time is over, in milliseconds: the shortest time that a read may
 // wait.
 const SHORTEST_WAIT: u64 = 1;
@@ -39,33 +36,38 @@ struct Greeted {
     fed: Fed,
 }
 
-/// What happened to a link's name at the link's end: it was left; or, since the life ends, it
-/// stays, for what is still to be sent.
+/// What happened to a link's name at the end of the link's input: it was left; or it stays, for what
+/// is still to be sent, since the life ends or keeps its links.
 #[derive(Clone, Copy)]
 enum Farewell {
     Left(LeftName),
     Kept(Ending),
+    Stays,
 }
 
-/// A worker of a life whose links come and go.
+/// The worker of a place.
 #[derive(Drop)]
 pub struct Host<'x, B: Books, R: Wait, G: Gate, C: LifeClock> {
     pub worker: Worker<'x, B, R, G, C>,
 }
 
 impl<'x, B: Books, R: Threads + Wait + Sync, G: Gate, C: LifeClock> Host<'x, B, R, G, C> {
-    /// Accepts links, and serves each to its end, until the life ends. Returns the seat.
+    /// Serves each link of the place to its end, until the life ends or no other link comes. Returns
+    /// the seat.
     pub fn run(self) -> Seat<B> {
         let mut host = self;
         let server = host.worker.server;
         for _ in host.worker.context.rt.forever() {
-            let accepted = server.accept();
+            let next = server
+                .entrance
+                .next(host.worker.context.rt, host.worker.number);
             if server.signals.is_ending() {
                 break;
             }
-            match accepted {
+            match next {
                 Some(stream) => host.serve(stream),
-                None => host.pause(),
+                None if server.entrance.is_open() => host.pause(),
+                None => break,
             }
         }
         host.worker.end_input();
@@ -95,7 +97,9 @@ impl<'x, B: Books, R: Threads + Wait + Sync, G: Gate, C: LifeClock> Host<'x, B, 
             self.welcome(stream);
         }
         signals.count_unlinked();
-        link.hide(rt);
+        if !self.worker.server.policy.keeps_links {
+            link.hide(rt);
+        }
     }
 
     fn welcome(&mut self, stream: TcpStream) {
@@ -124,17 +128,18 @@ impl<'x, B: Books, R: Threads + Wait + Sync, G: Gate, C: LifeClock> Host<'x, B, 
         refusals: Consumer<Refusal>,
         held: HeldName,
     ) -> Farewell
-        ensures { IsFarewell held result }
+        ensures { IsFarewell self.old.worker.server.policy held result }
     {
         let Greeted { name, fed } = greeted;
         let context = self.worker.context;
         let call = Call { stream, name };
+        let policy = self.worker.server.policy;
         let worker = &mut self.worker;
         thread::scope(
             thread::scope_env(),
             context.rt,
             |scope|
-                ensures { IsFarewell held result }
+                ensures { IsFarewell policy held result }
             { hold(scope, worker, &call, fed, refusals, held) },
         )
     }
@@ -162,7 +167,7 @@ fn hold<'s, 'x: 's, E, B: Books, R: Threads + Wait + Sync, G: Gate, C: LifeClock
     refusals: Consumer<Refusal>,
     held: HeldName,
 ) -> Farewell
-    ensures { IsFarewell held result }
+    ensures { IsFarewell worker.old.server.policy held result }
 {
     let context = worker.context;
     let sender = HostSender {
@@ -176,11 +181,11 @@ fn hold<'s, 'x: 's, E, B: Books, R: Threads + Wait + Sync, G: Gate, C: LifeClock
         call,
     };
     let name = format!(in context.alloc; "link-{number}-out", number = worker.number);
-    let sender = start(scope, name, move || sender.run(refusals));
-    if sender.is_some() && worker.hear_all(fed) {
+    let is_sent = start(scope, name, move || sender.run(refusals)).is_some();
+    if is_sent && worker.hear_all(fed) {
         worker.read(&call.stream);
     }
-    worker.end_link(held)
+    worker.end_link(held, is_sent)
 }
 
 // How long a read waits until this moment, in milliseconds. After this moment a read still takes
@@ -199,7 +204,12 @@ impl<'x, B: Books, R: Wait, G: Gate, C: LifeClock> Worker<'x, B, R, G, C> {
             (λ greeted. option_map peer_name self.new.feeder.peer ≡ Some greeted.name) }
         ensures same { self.new ≡ record self.old { feeder = self.new.feeder } }
     {
-        let until = moved_on(self.context.clock.now(), GREETING_WAIT);
+        let begun = self.context.clock.now();
+        let until = self
+            .server
+            .policy
+            .greeting_wait
+            .map(|wait| moved_on(begun, wait));
         let mut buffer = [0u8; PIECE];
         for _ in self.context.rt.forever() {
             let incoming = if self.limit_wait(stream, until) {
@@ -238,16 +248,20 @@ impl<'x, B: Books, R: Wait, G: Gate, C: LifeClock> Worker<'x, B, R, G, C> {
         None
     }
 
-    // Limits how long reads wait, up to this moment. Returns whether they can be limited.
-    fn limit_wait(&self, stream: &TcpStream, until: Moment) -> bool {
+    // Limits how long reads wait, up to this moment, if there is one. Returns whether that can be
+    // done.
+    fn limit_wait(&self, stream: &TcpStream, until: Option<Moment>) -> bool {
+        let Some(until) = until else {
+            return true;
+        };
         let wait = wait_until(self.context.clock.now(), until);
         stream
             .set_read_timeout(Some(Duration::from_millis(wait)))
             .is_ok()
     }
 
-    // Gives the link its name, and closes the link that had it. The directory stays locked
-    // meanwhile. The older link's worker has to leave the directory before its place goes to the
+    // Gives the link its name, and closes the link that had it, if names are taken over. The
+    // directory stays locked meanwhile. The older link's worker has to leave the directory before its place goes to the
     // next link, so the next link isn't closed in place of the older one. If there is one gateway
     // too many, its link counts as faulted.
     fn take_over(&self, name: &Recipient) -> Option<HeldName>
@@ -255,7 +269,12 @@ impl<'x, B: Books, R: Wait, G: Gate, C: LifeClock> Worker<'x, B, R, G, C> {
     {
         let rt = self.context.rt;
         let mut directory = self.server.directory.lock(rt);
-        let Ok((held, was)) = directory.take_over(name, self.number) else {
+        let taken = if self.server.policy.takes_over {
+            directory.take_over(name, self.number).ok()
+        } else {
+            directory.greet(name, self.number).map(|held| (held, None))
+        };
+        let Some((held, was)) = taken else {
             self.count_fault();
             return None;
         };
@@ -270,15 +289,19 @@ impl<'x, B: Books, R: Wait, G: Gate, C: LifeClock> Worker<'x, B, R, G, C> {
         Some(held)
     }
 
-    // Ends the reading of the link.
-    fn end_link(&mut self, held: HeldName) -> Farewell
-        ensures farewell { IsFarewell held result }
+    // Ends the reading of the link. `is_sent` says whether it has a sender.
+    fn end_link(&mut self, held: HeldName, is_sent: bool) -> Farewell
+        ensures farewell { IsFarewell self.old.server.policy held result }
         ensures ended { IsTrue self.old.has_ended → IsTrue self.new.has_ended }
         ensures same { self.new ≡ record self.old { has_ended = self.new.has_ended } }
     {
         if let Some(ending) = self.server.signals.ending() {
             self.end_input();
             return Farewell::Kept(ending);
+        }
+        if is_sent && self.server.policy.keeps_links {
+            self.end_input();
+            return Farewell::Stays;
         }
         let rt = self.context.rt;
         let mut directory = self.server.directory.lock(rt);

@@ -18,7 +18,7 @@ use gateway_wire::{Recipient, Request, read_line};
 use link_messages::{Fed, Feeder, Line, Message, Peer};
 use lw_types::{FrameCopy, Refusal};
 use rtrb::Producer;
-use server_links::{Gate, LifeClock, Link, Socket};
+use server_links::{Gate, LifeClock, Link};
 use session_core::{Books, Event, Seat, Turn};
 use sights::{FrameName, Sight};
 use std::io::{ErrorKind, Read};
@@ -130,17 +130,6 @@ impl<'x, B: Books, R: Wait, G: Gate, C: LifeClock> Worker<'x, B, R, G, C> {
         }
     }
 
-    /// Reads a link that stays until it sends nothing more or may not go on, and returns the seat.
-    pub fn run(self) -> Seat<B> {
-        let mut worker = self;
-        let link = worker.link;
-        if let Socket::Fixed(stream) = &link.socket {
-            worker.read(stream);
-        }
-        worker.end_input();
-        worker.seat
-    }
-
     /// Says, once, that the worker hands nothing in any more.
     pub(crate) fn end_input(&mut self)
         ensures { self.new ≡ record self.old { has_ended = true } }
@@ -241,7 +230,8 @@ impl<'x, B: Books, R: Wait, G: Gate, C: LifeClock> Worker<'x, B, R, G, C> {
             { seat = self.new.seat; calls = self.new.calls; refusals = self.new.refusals } }
     {
         match message {
-            Message::Greeting(peer) => self.greet(&peer),
+            // the name was given before
+            Message::Greeting(_) => true,
             Message::Copy(copy) => {
                 self.hear_copy(copy);
                 true
@@ -251,24 +241,6 @@ impl<'x, B: Books, R: Wait, G: Gate, C: LifeClock> Worker<'x, B, R, G, C> {
                 true
             }
         }
-    }
-
-    // A peer that greets with a name that is taken is at fault. If links come and go, the name was
-    // taken over before, if that was possible.
-    fn greet(&self, peer: &Peer) -> bool {
-        if self.server.door.is_some() {
-            return true;
-        }
-        self.link.set_name(self.context.rt, recipient_of(peer));
-        let is_new = self
-            .server
-            .directory
-            .lock(self.context.rt)
-            .greet(&recipient_of(peer), self.number);
-        if !is_new {
-            self.count_fault();
-        }
-        is_new
     }
 
     // If the copy is refused, only the operators who watch learn of it.

@@ -6,9 +6,8 @@ ghost use Rattle.lw_types.specs.declared.identifiers.Eui.{Eui};
 
 use directory::Directory;
 use gateway_wire::Recipient;
-use server_links::{ControlSocket, Door, Link, Signals, WaitingLines, drop_all};
+use server_links::{ControlSocket, Entrance, Link, Policy, Signals, WaitingLines, drop_all};
 use session_core::{Books, Shared};
-use std::net::TcpStream;
 use std::sync::{Mutex, Wait};
 
 /// The links, the data behind locks, and the signals. No thread holds both locks at once, nor one
@@ -19,12 +18,13 @@ use std::sync::{Mutex, Wait};
 #[derive(Drop)]
 pub struct LiveServer<B: Books> {
     pub links: Vec<Link>,
-    // The sockets for links and operators; none in a life whose links stay.
-    pub door: Option<Door>,
+    pub entrance: Entrance,
+    pub policy: Policy,
+    // The socket for operators, in a life with operators.
     pub control: Option<ControlSocket>,
     pub sessions: Mutex<Shared<B>>,
     pub directory: Mutex<Directory>,
-    // For each application, the lines that wait for it; none in a life whose links stay.
+    // For each application, the lines that wait for it, if lines wait.
     pub lines: Vec<WaitingLines>,
     pub signals: Signals,
 }
@@ -78,15 +78,8 @@ impl<B: Books> LiveServer<B> {
         }
     }
 
-    /// The next link that comes in; `None` if accepting fails, or if no more links are accepted.
-    pub(crate) fn accept(&self) -> Option<TcpStream>
-        ensures { IsSome result → IsSome self.now.door }
-    {
-        self.door.as_ref()?.accept().ok()
-    }
-
     fn shut_door(&self) {
-        if let Some(door) = &self.door {
+        if let Some(door) = self.entrance.door() {
             door.shut();
         }
     }

@@ -90,7 +90,7 @@ pub(crate) fn status_text<B: Books, R: Wait>(
     ensures { IfErr result (λ e. e ≡ OutOfMemory) }
 {
     let mut lines = StatusLines::new(alloc);
-    if let Some(door) = &server.door {
+    if let Some(door) = server.entrance.door() {
         lines.add_address(door.address());
     }
     add_links(rt, server, &mut lines);

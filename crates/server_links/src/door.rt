@@ -1,7 +1,40 @@
-// The listener through which links come during a life.
+// Where the links of a life come from.
 use std::io;
 use std::net::{Shutdown, SocketAddr, TcpListener, TcpStream};
 use std::os::fd::OwnedFd;
+use std::sync::{Mutex, Wait};
+
+/// Where the links of a life come from.
+#[derive(Drop)]
+pub enum Entrance {
+    /// Each place has its link before the life begins, and no other comes.
+    Filled(Vec<Mutex<Option<TcpStream>>>),
+    /// Links come in during the life.
+    Open(Door),
+}
+
+impl Entrance {
+    /// The next link of a place; `None` if there is no other, or if accepting fails.
+    pub fn next<R: Wait>(&self, rt: &R, place: usize) -> Option<TcpStream> {
+        match self {
+            Entrance::Filled(streams) => streams.get(place)?.lock(rt).take(),
+            Entrance::Open(door) => door.accept().ok(),
+        }
+    }
+
+    /// Whether other links may come.
+    pub fn is_open(&self) -> bool {
+        self.door().is_some()
+    }
+
+    /// The listener through which links come.
+    pub fn door(&self) -> Option<&Door> {
+        match self {
+            Entrance::Filled(_) => None,
+            Entrance::Open(door) => Some(door),
+        }
+    }
+}
 
 /// A listener that can be shut while threads wait at it.
 #[derive(Drop)]

@@ -14,6 +14,7 @@ mod link;
 mod moments;
 mod orders;
 mod outgoing;
+mod policy;
 mod rings;
 mod routing;
 mod signals;
@@ -23,16 +24,15 @@ mod writing;
 
 pub use control::{ATTENDANTS, ControlSocket};
 pub use counts::{Count, Counts};
-pub use door::Door;
+pub use door::{Door, Entrance};
 pub use fault::ServeFault;
 pub use gate::{Gate, NobodyTold, OnBegun, OpenGate};
 pub use gathering::drop_all;
-pub use link::{
-    Link, LinkCount, MOST_PLACES, PlaceCount, Socket, accept, empty_places, set_options,
-};
+pub use link::{Link, LinkCount, MOST_PLACES, PlaceCount, accept, empty_places, set_options};
 pub use moments::{LifeClock, Monotonic, moment_of, moved_on};
 pub use orders::Order;
 pub use outgoing::Outgoing;
+pub use policy::Policy;
 pub use rings::{PLACES, WaitingLines};
 pub use routing::route;
 pub use signals::{Ending, Signals};

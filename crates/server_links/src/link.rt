@@ -1,18 +1,17 @@
-// A link to a gateway or an application, and its place in a life.
+// The places of a life, and the links in them.
 ghost use Rattle.std.specs.Prelude.{◌≡◌, length, IfErr, MatchResult};
 ghost use Rattle.lw_types.specs.declared.refusal.Refusal.TheVariants.{OutOfMemory};
 ghost use Rattle.server_links.specs.Faults.{IsOfBeginning};
 
 use crate::fault::ServeFault;
 use crate::writing::Spare;
-use gateway_wire::Recipient;
 use lw_types::{Ranged, Refusal};
 use session_core::Moment;
 use std::alloc::Global;
 use std::net::{Shutdown, TcpListener, TcpStream};
 use std::sync::atomic::Ordering::SeqCst;
 use std::sync::atomic::{AtomicBool, AtomicU64};
-use std::sync::{Mutex, OnceLock, Wait};
+use std::sync::{Mutex, Wait};
 use std::thread::Parker;
 use std::time::Duration;
 
@@ -33,16 +32,15 @@ const ATTEMPTS: u32 = 1000;
 // How long one write waits for room, in seconds. After that the sender checks whether to go on.
 const WRITE_WAIT: u64 = 1;
 
-/// The place of a link, and the bell of its sender. The bell rings when there is something to send
+/// A place for links, and the bell of their senders. The bell rings when there is something to send
 /// or nothing more will come.
 #[derive(Drop)]
 pub struct Link {
-    pub socket: Socket,
+    // The current link, so that others can close it.
+    current: Mutex<Option<TcpStream>>,
     pub bell: Parker,
     // What the senders of this place use in turn; `None` while a sender has it.
     pub spare: Mutex<Option<Spare>>,
-    // The peer that greeted on a link that stays.
-    name: OnceLock<Recipient>,
     // The current link has ended: nothing more comes for it.
     over: AtomicBool,
     // The current link lost its name to a later link, and was closed.
@@ -51,28 +49,13 @@ pub struct Link {
     last_copy: AtomicU64,
 }
 
-/// The socket of a place.
-#[derive(Drop)]
-pub enum Socket {
-    /// One link, for the whole life.
-    Fixed(TcpStream),
-    /// One link after another. The current one is registered here, so that others can close it.
-    Shown(Mutex<Option<TcpStream>>),
-}
-
 impl Link {
-    // A link that stays.
-    fn fixed(stream: TcpStream) -> Self {
-        set_options(&stream);
-        Link::new(Socket::Fixed(stream))
-    }
-
-    fn new(socket: Socket) -> Self {
+    /// A place without a link.
+    fn new() -> Self {
         Link {
-            socket,
+            current: Mutex::new(None),
             bell: Parker::new(),
             spare: Mutex::new(None),
-            name: OnceLock::new(),
             over: AtomicBool::new(false),
             taken: AtomicBool::new(false),
             last_copy: AtomicU64::new(0),
@@ -101,15 +84,8 @@ impl Link {
     }
 
     fn shut<R: Wait>(&self, rt: &R, how: Shutdown) {
-        match &self.socket {
-            Socket::Fixed(stream) => {
-                let _ = stream.shutdown(how);
-            }
-            Socket::Shown(shown) => {
-                if let Some(stream) = &*shown.lock(rt) {
-                    let _ = stream.shutdown(how);
-                }
-            }
+        if let Some(stream) = &*self.current.lock(rt) {
+            let _ = stream.shutdown(how);
         }
     }
 
@@ -134,28 +110,12 @@ impl Link {
         self.over.store(false, SeqCst);
         self.taken.store(false, SeqCst);
         self.last_copy.store(0, SeqCst);
-        self.set_shown(rt, Some(stream));
+        *self.current.lock(rt) = Some(stream);
     }
 
     /// Removes the current link.
     pub fn hide<R: Wait>(&self, rt: &R) {
-        self.set_shown(rt, None);
-    }
-
-    fn set_shown<R: Wait>(&self, rt: &R, stream: Option<TcpStream>) {
-        if let Socket::Shown(shown) = &self.socket {
-            *shown.lock(rt) = stream;
-        }
-    }
-
-    /// The peer that greeted on a link that stays.
-    pub fn name(&self) -> Option<&Recipient> {
-        self.name.get()
-    }
-
-    /// Sets the peer that greets on a link that stays.
-    pub fn set_name<R: Wait>(&self, rt: &R, name: Recipient) {
-        let _ = self.name.set(rt, name);
+        *self.current.lock(rt) = None;
     }
 
     /// Says that nothing more comes for the current link: its sender writes what waits, and ends.
@@ -183,17 +143,17 @@ pub fn accept(
     alloc: Global,
     listener: TcpListener,
     count: LinkCount,
-) -> Result<Vec<Link>, ServeFault>
-    ensures { MatchResult result (λ links. length links.items ≡ count) IsOfBeginning }
+) -> Result<Vec<Mutex<Option<TcpStream>>>, ServeFault>
+    ensures { MatchResult result (λ streams. length streams.items ≡ count) IsOfBeginning }
 {
-    let mut links = Vec::new(alloc);
+    let mut streams = Vec::new(alloc);
     for _number in 0..count.get() {
         let stream = accept_one(&listener)?;
-        if links.push(Link::fixed(stream)).is_err() {
+        if streams.push(Mutex::new(Some(stream))).is_err() {
             return Err(ServeFault::Refused(Refusal::OutOfMemory));
         }
     }
-    Ok(links)
+    Ok(streams)
 }
 
 // A connection that is gone before it is accepted counts as a failed accept, which is tried again.
@@ -209,12 +169,12 @@ fn accept_one(listener: &TcpListener) -> Result<TcpStream, ServeFault>
 }
 
 /// This number of places without links. Refused with `OutOfMemory` if memory runs out.
-pub fn empty_places(alloc: Global, count: PlaceCount) -> Result<Vec<Link>, Refusal>
+pub fn empty_places(alloc: Global, count: u64) -> Result<Vec<Link>, Refusal>
     ensures { MatchResult result (λ links. length links.items ≡ count) (λ e. e ≡ OutOfMemory) }
 {
     let mut links = Vec::new(alloc);
-    for _number in 0..count.get() {
-        links.push(Link::new(Socket::Shown(Mutex::new(None))))?;
+    for _number in 0..count {
+        links.push(Link::new())?;
     }
     Ok(links)
 }

@@ -1,5 +1,5 @@
 // A sender, which writes to a link.
-ghost use Rattle.std.specs.Prelude.{◌≡◌, ◌≤◌, ◌+◌, ◌⊎◌, ◌↔◌, [], None, length, option_map, IsTrue};
+ghost use Rattle.std.specs.Prelude.{◌≡◌, ◌≤◌, ◌+◌, ◌⊎◌, ◌↔◌, [], Some, length, IsTrue};
 ghost use Rattle.outbox.specs.Ring.{seen_by, taken_from};
 ghost use Rattle.rtrb.specs.Ring.{known_items, received};
 ghost use Rattle.server_links.specs.Sending.{AreGathered, HaveAnswered, IsHandedOver, IsWrittenTo};
@@ -36,8 +36,8 @@ pub struct Sender<'x, R: Wait> {
     pub watch: Option<&'x Watch>,
     pub link: &'x Link,
     pub stream: &'x TcpStream,
-    // The name of the link's peer, as far as the sender knows.
-    pub name: Option<&'x Recipient>,
+    // The name of the link's peer.
+    pub name: &'x Recipient,
     pub inlet: Inlet,
     pub refusals: Consumer<Refusal>,
     pub outgoing: Outgoing,
@@ -98,7 +98,7 @@ impl<'x, R: Wait> Sender<'x, R> {
 
     // Gathers some of what waits, and writes it.
     fn hand_over<W: Write>(&mut self, stream: &mut W) -> HandedOver
-        ensures written { IsHandedOver (option_map (λ name. name.now) self.new.name)
+        ensures written { IsHandedOver (Some self.new.name)
             (received self.old.refusals) (received self.new.refusals)
             (taken_from self.old.inlet) (taken_from self.new.inlet) result.is_some
             self.old.is_broken self.new.is_broken result.dropped
@@ -107,7 +107,7 @@ impl<'x, R: Wait> Sender<'x, R> {
             ≡ length (received self.old.refusals) + SOME_REFUSALS)
             ⊎ (known_items self.new.refusals ≡ []) }
         ensures keeps { self.new.keeps ≡ self.old.keeps }
-        ensures named { (self.old.name ≡ None) ⊎ (self.new.name ≡ self.old.name) }
+        ensures name { self.new.name ≡ self.old.name }
     {
         self.outgoing.clear();
         let is_told = self.gather_refusals();
@@ -135,8 +135,8 @@ impl<'x, R: Wait> Sender<'x, R> {
             return;
         }
         self.signals.counts.dropped.add(lost);
-        if let (Some(watch), Some(name)) = (self.watch, self.name) {
-            watch.tell(self.rt, Sight::Dropped(*name, lost));
+        if let Some(watch) = self.watch {
+            watch.tell(self.rt, Sight::Dropped(*self.name, lost));
         }
     }
 
@@ -166,28 +166,22 @@ impl<'x, R: Wait> Sender<'x, R> {
         some
     }
 
-    // Takes effects for the link's name. Nothing comes for a link whose peer hasn't greeted.
+    // Takes effects for the link's name.
     fn gather_effects(&mut self) -> Gathered
-        ensures gathered { AreGathered (option_map (λ name. name.now) self.new.name)
+        ensures gathered { AreGathered (Some self.new.name)
             (taken_from self.old.inlet) (taken_from self.new.inlet) result.taken result.lost
             self.old.outgoing self.new.outgoing }
-        ensures enough { (self.new.name ≡ None) ⊎ ((result.taken ≡ SOME)
-            ⊎ ((MUCH ≤ length self.new.outgoing) ⊎ (seen_by self.new.inlet ≡ []))) }
+        ensures enough { (result.taken ≡ SOME)
+            ⊎ ((MUCH ≤ length self.new.outgoing) ⊎ (seen_by self.new.inlet ≡ [])) }
         ensures broken { (self.new.is_broken ≡ self.old.is_broken)
             × (IsTrue self.old.is_broken → result.lost ≡ result.taken) }
         ensures refusals { self.new.refusals ≡ self.old.refusals }
         ensures keeps { self.new.keeps ≡ self.old.keeps }
-        ensures named { (self.old.name ≡ None) ⊎ (self.new.name ≡ self.old.name) }
+        ensures name { self.new.name ≡ self.old.name }
     {
-        if self.name.is_none() {
-            self.name = self.link.name();
-        }
-        let Some(name) = self.name else {
-            return Gathered { taken: 0, lost: 0 };
-        };
         gather(
             self.alloc,
-            name,
+            self.name,
             &mut self.inlet,
             &mut self.outgoing,
             self.is_broken,
@@ -329,7 +323,7 @@ impl<'x, R: Wait> HostSender<'x, R> {
             watch: self.watch,
             link: self.link,
             stream: &self.call.stream,
-            name: Some(&self.call.name),
+            name: &self.call.name,
             inlet,
             refusals,
             outgoing,
