@@ -6,7 +6,7 @@ ghost use Rattle.link_server.specs.Served.{IsRun};
 use crate::flushing::flush;
 use crate::parts::{LinkParts, Parts};
 use disk::Disk;
-use link_workers::{Attendant, Closer, Context, Host, LiveServer, Worker, start};
+use link_workers::{Attendant, Closer, Context, LiveServer, Worker, start};
 use lw_types::Refusal;
 use server_links::{ATTENDANTS, Gate, LifeClock, OnBegun, Outgoing, Spare};
 use session_core::{Books, Seat, Taker};
@@ -154,9 +154,8 @@ impl<B: Books + Send + Sync> Started<B> {
         let outgoing = Outgoing::new(context.alloc);
         link.set_spare(context.rt, Spare { inlet, outgoing });
         let worker = Worker::new(context, server, link, number, seat, refused);
-        let host = Host { worker };
         let name = format!(in context.alloc; "link-{number}-in");
-        self.keep_seated(start(scope, name, move || host.run()));
+        self.keep_seated(start(scope, name, move || worker.run()));
     }
 
     fn start_attendants<'s, E, R: Threads + Wait + Sync, G: Gate + Sync, C: LifeClock + Sync>(

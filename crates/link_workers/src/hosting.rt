@@ -45,39 +45,30 @@ enum Farewell {
     Stays,
 }
 
-/// The worker of a place.
-#[derive(Drop)]
-pub struct Host<'x, B: Books, R: Wait, G: Gate, C: LifeClock> {
-    pub worker: Worker<'x, B, R, G, C>,
-}
-
-impl<'x, B: Books, R: Threads + Wait + Sync, G: Gate, C: LifeClock> Host<'x, B, R, G, C> {
-    /// Serves each link of the place to its end, until the life ends or no other link comes. Returns
+impl<'x, B: Books, R: Threads + Wait + Sync, G: Gate, C: LifeClock> Worker<'x, B, R, G, C> {
+    /// Serves each link of its place to its end, until the life ends or no other link comes. Returns
     /// the seat.
     pub fn run(self) -> Seat<B> {
-        let mut host = self;
-        let server = host.worker.server;
-        for _ in host.worker.context.rt.forever() {
-            let next = server
-                .entrance
-                .next(host.worker.context.rt, host.worker.number);
+        let mut worker = self;
+        let (rt, server) = (worker.context.rt, worker.server);
+        for _ in rt.forever() {
+            let next = server.entrance.next(rt, worker.number);
             if server.signals.is_ending() {
                 break;
             }
             match next {
-                Some(stream) => host.serve(stream),
-                None if server.entrance.is_open() => host.pause(),
+                Some(stream) => worker.serve(stream),
+                None if server.entrance.is_open() => worker.pause(),
                 None => break,
             }
         }
-        host.worker.end_input();
-        host.worker.seat
+        worker.end_input();
+        worker.seat
     }
 
     fn pause(&self) {
         let pause = Duration::from_secs(ACCEPT_PAUSE);
-        let worker = &self.worker;
-        worker.link.bell.park_timeout(worker.context.rt, pause);
+        self.link.bell.park_timeout(self.context.rt, pause);
     }
 
     // Register the link before serving it, so that shutdown can close it. Shutdown sets its flag
@@ -88,24 +79,24 @@ impl<'x, B: Books, R: Threads + Wait + Sync, G: Gate, C: LifeClock> Host<'x, B, 
             return;
         };
         set_options(&stream);
-        let link = self.worker.link;
-        let rt = self.worker.context.rt;
-        let signals = &self.worker.server.signals;
+        let link = self.link;
+        let rt = self.context.rt;
+        let signals = &self.server.signals;
         link.show(rt, shown);
         signals.count_linked();
         if !signals.is_ending() {
             self.welcome(stream);
         }
         signals.count_unlinked();
-        if !self.worker.server.policy.keeps_links {
+        if !self.server.policy.keeps_links {
             link.hide(rt);
         }
     }
 
     fn welcome(&mut self, stream: TcpStream) {
-        let context = self.worker.context;
-        self.worker.feeder = Feeder::new(context.alloc);
-        let Some(greeted) = self.worker.hear_greeting(&stream) else {
+        let context = self.context;
+        self.feeder = Feeder::new(context.alloc);
+        let Some(greeted) = self.hear_greeting(&stream) else {
             return;
         };
         // each link has its own ring of refusals, so that no refusal goes to the next link; if
@@ -114,8 +105,8 @@ impl<'x, B: Books, R: Threads + Wait + Sync, G: Gate, C: LifeClock> Host<'x, B, 
             return;
         };
         let name = greeted.name;
-        if let Some(held) = self.worker.take_over(&name) {
-            self.worker.refusals = refused;
+        if let Some(held) = self.take_over(&name) {
+            self.refusals = refused;
             let _ = self.converse(stream, greeted, refusals, held);
             self.drop_rest(name);
         }
@@ -128,13 +119,13 @@ impl<'x, B: Books, R: Threads + Wait + Sync, G: Gate, C: LifeClock> Host<'x, B, 
         refusals: Consumer<Refusal>,
         held: HeldName,
     ) -> Farewell
-        ensures { IsFarewell self.old.worker.server.policy held result }
+        ensures { IsFarewell self.old.server.policy held result }
     {
         let Greeted { name, fed } = greeted;
-        let context = self.worker.context;
+        let context = self.context;
         let call = Call { stream, name };
-        let policy = self.worker.server.policy;
-        let worker = &mut self.worker;
+        let policy = self.server.policy;
+        let worker = &mut *self;
         thread::scope(
             thread::scope_env(),
             context.rt,
@@ -146,14 +137,14 @@ impl<'x, B: Books, R: Threads + Wait + Sync, G: Gate, C: LifeClock> Host<'x, B, 
 
     // Drops what was for the link that has ended: it is of no use to the next one.
     fn drop_rest(&self, name: Recipient) {
-        let rt = self.worker.context.rt;
+        let rt = self.context.rt;
         let mut lost = 0;
-        if let Some(spare) = self.worker.link.spare.lock(rt).as_mut() {
+        if let Some(spare) = self.link.spare.lock(rt).as_mut() {
             lost = drop_all(&mut spare.inlet);
         }
         if lost > 0 {
-            self.worker.server.signals.counts.dropped.add(lost);
-            self.worker.server.tell(rt, Sight::Dropped(name, lost));
+            self.server.signals.counts.dropped.add(lost);
+            self.server.tell(rt, Sight::Dropped(name, lost));
         }
     }
 }
@@ -261,9 +252,9 @@ impl<'x, B: Books, R: Wait, G: Gate, C: LifeClock> Worker<'x, B, R, G, C> {
     }
 
     // Gives the link its name, and closes the link that had it, if names are taken over. The
-    // directory stays locked meanwhile. The older link's worker has to leave the directory before its place goes to the
-    // next link, so the next link isn't closed in place of the older one. If there is one gateway
-    // too many, its link counts as faulted.
+    // directory stays locked meanwhile. The older link's worker has to leave the directory before
+    // its place goes to the next link, so the next link isn't closed in place of the older one. If
+    // the link gets no name, it counts as faulted.
     fn take_over(&self, name: &Recipient) -> Option<HeldName>
         ensures held { IfSome result (IsHeld name.now self.now.number) }
     {

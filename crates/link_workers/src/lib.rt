@@ -16,7 +16,6 @@ mod threads;
 pub use attending::{Attendant, BUSY, WATCHING};
 pub use closing::Closer;
 pub use context::Context;
-pub use hosting::Host;
 pub use reading::Worker;
 pub use server::LiveServer;
 pub use threads::start;
