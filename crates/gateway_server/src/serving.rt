@@ -6,10 +6,11 @@ use crate::control::{ControlPath, ENDED, bind_control, path_of, real_file, remov
 use crate::descriptors::hold_descriptors;
 use crate::stores::{open_store, open_timed};
 use command_words::Mode;
-use link_server::{
+use lnsd_life::{
     LifeReport, LinkCount, Monotonic, OnBegun, OpenGate, PlaceCount, ServedLife, serve_links,
     serve_on,
 };
+use lnsd_operator::DiskTimes;
 use std::alloc::Global;
 use std::fs::File;
 use std::io::Write;
@@ -18,7 +19,6 @@ use std::os::unix::net::{UnixListener, UnixStream};
 use std::rt::{Clock, Files};
 use std::sync::Wait;
 use std::thread::Threads;
-use timed_disk::DiskTimes;
 
 /// A life of a server that ended without a fault: the mode that asked for it, and its report. Only
 /// [`serve`] and [`run_server`] make one.

@@ -3,7 +3,7 @@ ghost use Rattle.std.specs.Prelude.{◌≡◌, ◌<◌};
 
 use crate::gates::StandingClock;
 use crate::lives::{clients, heard, new_store, refusal_of, serve, wires};
-use link_server::OpenGate;
+use lnsd_life::OpenGate;
 use lw_types::Refusal;
 use std::alloc::Global;
 use std::net::{Net, TcpListener, TcpStream};

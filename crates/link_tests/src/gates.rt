@@ -1,5 +1,5 @@
 // Clocks and gates of these tests.
-use link_server::{Gate, LifeClock};
+use lnsd_life::{Gate, LifeClock};
 use session_core::Moment;
 use std::sync::Wait;
 use std::sync::atomic::Ordering::SeqCst;

@@ -3,7 +3,7 @@ use crate::disks::HeldDisk;
 use crate::gates::{HoldBoth, HoldFirst, Marks, StandingClock};
 use crate::lives::{clients, hears, new_disk, new_store, refusal_of, serve, wires};
 use devices::Device;
-use link_server::LifeReport;
+use lnsd_life::LifeReport;
 use lw_types::Refusal;
 use std::alloc::Global;
 use std::net::{Net, TcpListener, TcpStream};

@@ -1,7 +1,7 @@
 // Lives of a server over loopback.
 use crate::wire::wire;
 use disk::{Disk, MemDisk};
-use link_server::{Gate, LifeClock, LinkCount, ServeFault, ServedLife, serve_links};
+use lnsd_life::{Gate, LifeClock, LinkCount, ServeFault, ServedLife, serve_links};
 use lw_types::{NetId, Refusal};
 use sessions::Slots;
 use std::alloc::Global;

@@ -1,9 +1,8 @@
 // Links that come and go during a server's life.
 use crate::lives::{new_store, of_socket, refusal_of};
 use crate::wire::wire;
-use link_server::{
-    Monotonic, OnBegun, OpenGate, Order, PlaceCount, ServedLife, WATCHING, serve_on,
-};
+use lnsd_life::{Monotonic, OnBegun, OpenGate, Order, PlaceCount, ServedLife, WATCHING, serve_on};
+use lnsd_operator::DiskTimes;
 use lw_types::Refusal;
 use std::alloc::Global;
 use std::io::{Read, Write};
@@ -13,7 +12,6 @@ use std::os::unix::net::{SocketAddrExt, UnixListener, UnixStream};
 use std::rt::{Clock, Files};
 use std::sync::Wait;
 use std::thread::{Threads, join};
-use timed_disk::DiskTimes;
 
 // A gateway, an application, and what they send and receive. The frames were made by a device and a
 // network of another implementation (python/bozintar).

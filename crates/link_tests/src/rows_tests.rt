@@ -3,7 +3,7 @@ use crate::gates::StandingClock;
 use crate::lives::{clients, hears, new_store, refusal_of, serve, wires};
 use disk::MemDisk;
 use gateway_wire::list_text;
-use link_server::OpenGate;
+use lnsd_life::OpenGate;
 use lw_types::Refusal;
 use std::alloc::Global;
 use std::net::{Net, TcpListener, TcpStream};

@@ -1,0 +1,21 @@
+-- The recipient that a link's peer is for effects, and what happens to that name.
+use Rattle.std.specs.Prelude.{◌≡◌, ⊤, IsTrue}
+use Rattle.lnsd_links.specs.declared.names.HeldName.{HeldName}
+use Rattle.gateway_wire.specs.declared.recipient.Recipient.{Recipient}
+use Rattle.gateway_wire.specs.declared.recipient.Recipient.TheVariants as names
+use Rattle.link_messages.specs.declared.message.Peer.{Peer}
+use Rattle.lnsd_links.specs.declared.policy.Policy.{Policy}
+use Rattle.lnsd_threads.specs.declared.hosting.Farewell.{Farewell}
+use Rattle.lnsd_threads.specs.declared.hosting.Farewell.TheVariants.{Left, Kept, Stays}
+use Rattle.link_messages.specs.declared.message.Peer.TheVariants.{Gateway, Application}
+
+abbrev pub peer_name : Peer → Recipient
+peer_name (Gateway gateway) = names.Gateway gateway
+peer_name (Application application) = names.Application application
+
+-- this very name was left, for the link that had taken it over, unless the life ends or keeps its
+-- links
+abbrev pub IsFarewell : Policy → HeldName → Farewell → Type 0
+IsFarewell policy held (Left left) = left.held ≡ held
+IsFarewell policy held (Kept ending) = ⊤
+IsFarewell policy held Stays = IsTrue policy.keeps_links
