@@ -2,10 +2,10 @@
 EU868 (RP002-1.0.4), without input or output.
 
 The margin is the best SNR of the last uplinks, less what the data rate needs, less an installation
-margin. Each 3 dB of the margin is a step. A step up raises the data rate by one, or lowers the power
-by 2 dB if the data rate is the highest one. A step down raises the power by 2 dB. The rule never
-lowers a data rate: a device does so by itself if it isn't heard (TS001-1.0.4 §4.3.1.1), and two that
-lower it would work against each other."""
+margin. An SNR far above the mean of these uplinks counts less. Each 3 dB of the margin is a step. A
+step up raises the data rate by one, or lowers the power by 2 dB if the data rate is the highest one.
+A step down raises the power by 2 dB. The rule never lowers a data rate: a device does so by itself
+if it isn't heard (TS001-1.0.4 §4.3.1.1), and two that lower it would work against each other."""
 
 import math
 from dataclasses import dataclass
@@ -43,12 +43,17 @@ class Setting:
 class Rules:
     """How decisions are made: with which margin in dB, of how many uplinks the best SNR counts, from
     how many on the data rate alone is raised, and which index of power is the last one asked for.
-    """
+
+    The best SNR counts as at most `luck` dB above the mean. In time, 20 uplinks come of which one is
+    much louder than usual; without this bound each device would end at a data rate that it can't
+    keep, since no data rate is lowered. The best of 20 is 6 dB above the mean if the standard
+    deviation is 3 dB."""
 
     margin: float = 12.0
     history: int = 20
     first: int = 4
     most_power: int = MOST_POWER
+    luck: float = 6.0
 
 
 @dataclass(frozen=True)
@@ -59,6 +64,11 @@ class Limits:
     power: int = MOST_POWER
 
 
+def level(snrs: tuple[float, ...], luck: float) -> float:
+    """The SNR by which is decided: the best one, but at most this far above the mean."""
+    return min(max(snrs), sum(snrs) / len(snrs) + luck)
+
+
 def wanted(now: Setting, snrs: tuple[float, ...], rules: Rules, limits: Limits) -> Setting:
     """What a device should send with, whose last uplinks had these SNRs with the present setting.
     The best SNR of fewer uplinks is usually lower, so the data rate may be raised early; the power
@@ -66,7 +76,7 @@ def wanted(now: Setting, snrs: tuple[float, ...], rules: Rules, limits: Limits) 
     if len(snrs) < min(rules.first, rules.history):
         return now
     # the sum is rounded, since quarters of a dB are exact and decimal margins aren't
-    steps = math.floor(round((max(snrs) - FLOORS[now.rate] - rules.margin) / STEP, 6))
+    steps = math.floor(round((level(snrs, rules.luck) - FLOORS[now.rate] - rules.margin) / STEP, 6))
     up = min(max(steps, 0), max(limits.rate - now.rate, 0))
     rate, steps = now.rate + up, steps - up
     more = steps if len(snrs) >= rules.history else 0

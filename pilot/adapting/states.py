@@ -6,7 +6,8 @@ the network until an uplink comes, goes down after it, and is answered with the 
 The answer is sent once, and may be lost; so the data rate of the next uplinks counts as an answer,
 too."""
 
-from dataclasses import dataclass, field, replace
+from dataclasses import dataclass, replace
+from typing import NamedTuple
 
 from bridges.mac_commands import DEV_STATUS
 
@@ -44,8 +45,7 @@ NO_CHANNELS = "it refuses the eight channels"
 REFUSES = "it refused three times"
 
 
-@dataclass(frozen=True)
-class Uplink:
+class Uplink(NamedTuple):
     """An uplink: the JoinNonce of its session, its counter, data rate, best SNR and frequency."""
 
     session: int
@@ -73,8 +73,7 @@ class Request:
         return self.setting.command() if self.setting else bytes([DEV_STATUS])
 
 
-@dataclass(frozen=True)
-class Device:
+class Device(NamedTuple):
     """What is known of a device in its present session."""
 
     session: int = 0
@@ -84,7 +83,7 @@ class Device:
     is_sure: bool = True
     has_eight: bool = False
     snrs: tuple[float, ...] = ()
-    limits: Limits = field(default_factory=Limits)
+    limits: Limits = Limits()
     request: Request | None = None
     refusals: int = 0
     rises: int = 0
@@ -113,9 +112,9 @@ def heard(device: Device, uplink: Uplink, rules: Rules, may: May = NOW) -> Devic
     device = followed(in_session(device, uplink), uplink)
     snrs = (*device.snrs, uplink.snr)[-rules.history :]
     has_eight = device.has_eight or uplink.hz in LATER_CHANNELS
-    device = replace(device, counter=uplink.counter, snrs=snrs, has_eight=has_eight)
+    device = device._replace(counter=uplink.counter, snrs=snrs, has_eight=has_eight)
     if device.rests_until is not None and uplink.counter >= device.rests_until:
-        device = replace(device, why="", rests_until=None)
+        device = device._replace(why="", rests_until=None)
     if device.request and not may.is_past:
         return waited(device, device.request, may)
     return device if device.request else decided(device, rules, may)
@@ -139,7 +138,7 @@ def in_session(device: Device, uplink: Uplink) -> Device:
         return Device(uplink.session, -1, Setting(uplink.rate), is_sure)
     if uplink.counter - device.counter > FORGOTTEN:
         setting = Setting(device.setting.rate)
-        return replace(device, setting=setting, is_sure=False, request=None, snrs=())
+        return device._replace(setting=setting, is_sure=False, request=None, snrs=())
     return device
 
 
@@ -154,30 +153,30 @@ def followed(device: Device, uplink: Uplink) -> Device:
         return done(device, request.setting)
     power = device.setting.power if uplink.rate > device.setting.rate else 0
     rises = device.rises + (uplink.rate > device.setting.rate)
-    device = replace(device, setting=Setting(uplink.rate, power), snrs=(), rises=rises)
+    device = device._replace(setting=Setting(uplink.rate, power), snrs=(), rises=rises)
     if rises < MOST_RISES:
         return device
-    return left(replace(device, rises=0), OWN_RATES, uplink.counter + REST)
+    return left(device._replace(rises=0), OWN_RATES, uplink.counter + REST)
 
 
 def done(device: Device, setting: Setting) -> Device:
     """The device sends with what was asked for. The history begins again."""
-    return replace(device, setting=setting, is_sure=True, request=None, snrs=(), refusals=0)
+    return device._replace(setting=setting, is_sure=True, request=None, snrs=(), refusals=0)
 
 
 def left(device: Device, why: str, until: int | None = None) -> Device:
     """The device isn't asked for a setting any more in this session, or until a counter."""
-    return replace(device, request=None, why=why, rests_until=until)
+    return device._replace(request=None, why=why, rests_until=until)
 
 
 def waited(device: Device, request: Request, may: May) -> Device:
     """One more uplink came while an answer is awaited."""
     request = replace(request, uplinks=request.uplinks + 1)
-    device = replace(device, request=request)
+    device = device._replace(request=request)
     if request.uplinks < PATIENCE:
         return device
     if not request.setting:
-        return replace(device, request=None)
+        return device._replace(request=None)
     if request.is_accepted and request.setting.rate != device.setting.rate:
         return left(device, OWN_ADR)
     if request.tries >= TRIES:
@@ -185,7 +184,7 @@ def waited(device: Device, request: Request, may: May) -> Device:
     if not may.ask:
         return device
     tries = request.tries + 1
-    return replace(device, request=Request(request.setting, request.before, device.counter, tries))
+    return device._replace(request=Request(request.setting, request.before, device.counter, tries))
 
 
 def decided(device: Device, rules: Rules, may: May) -> Device:
@@ -197,9 +196,9 @@ def decided(device: Device, rules: Rules, may: May) -> Device:
     setting = wanted(device.setting, device.snrs, rules, device.limits)
     is_better = setting != device.setting or (is_full and not device.is_sure)
     if is_better and device.has_eight and not device.why:
-        return replace(device, request=Request(setting, device.setting, device.counter))
+        return device._replace(request=Request(setting, device.setting, device.counter))
     if may.status:
-        return replace(device, request=Request(None, device.setting, device.counter))
+        return device._replace(request=Request(None, device.setting, device.counter))
     return device
 
 
@@ -212,7 +211,7 @@ def answered(device: Device, session: int, status: int) -> Device:
         return refused(device, request.setting, request.before, status)
     if request.setting.rate == device.setting.rate:  # no uplink will show it
         return done(device, request.setting)
-    return replace(device, request=replace(request, is_accepted=True), refusals=0)
+    return device._replace(request=replace(request, is_accepted=True), refusals=0)
 
 
 def refused(device: Device, setting: Setting, before: Setting, status: int) -> Device:
@@ -223,7 +222,7 @@ def refused(device: Device, setting: Setting, before: Setting, status: int) -> D
     if not status & POWER_ACK:
         power = min(power, max(setting.power - 1, 0))
     refusals = device.refusals + 1
-    device = replace(device, request=None, limits=Limits(rate, power), refusals=refusals)
+    device = device._replace(request=None, limits=Limits(rate, power), refusals=refusals)
     if not status & MASK_ACK:
         return left(device, NO_CHANNELS)
     return left(device, REFUSES) if refusals >= MOST_REFUSALS else device
@@ -232,10 +231,10 @@ def refused(device: Device, setting: Setting, before: Setting, status: int) -> D
 def status_came(device: Device) -> Device:
     """A DevStatusAns came."""
     is_awaited = device.request and not device.request.setting
-    return replace(device, request=None) if is_awaited else device
+    return device._replace(request=None) if is_awaited else device
 
 
 def not_queued(device: Device, counter: int) -> Device:
     """The network doesn't have the command that was published after this uplink."""
     request = device.request
-    return replace(device, request=None) if request and request.counter == counter else device
+    return device._replace(request=None) if request and request.counter == counter else device

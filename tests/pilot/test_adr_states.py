@@ -71,6 +71,17 @@ def test_margin(margin: float, due: str) -> None:
     )
 
 
+# one SNR and those of the 19 other uplinks; which data rate is wanted at DR0: the mean and 6 dB count
+# if that is less than the best one
+LUCKY: tuple = ((9.0, 4.0, 5), (9.0, -4.0, 3), (9.0, -10.0, 1), (9.0, -20.0, 0))
+
+
+@table("best, others, due", LUCKY)
+def test_lucky_uplink(best: float, others: float, due: int) -> None:
+    """A single uplink that is much louder than the others raises no data rate far."""
+    assert wanted(Setting(0), (best, *[others] * 19), RULES, Limits()).rate == due
+
+
 def test_command() -> None:
     """A LinkADRReq: data rate 5 and power 2, eight channels, ChMaskCntl 0, NbTrans 1 (§5)."""
     assert setting("5/2").command().hex() == "0352ff0001"
@@ -273,7 +284,7 @@ STATES: tuple = (
     (
         "its answer",
         (up(4, 0, -9.0, may=STATUS), status_comes, up(1, 0, 9.0)),
-        "status 5/0",
+        "status 2/0",
         "0/0",
         "",
     ),
@@ -348,6 +359,6 @@ def test_rest_of_a_row() -> None:
     play = Play()
     for step in (up(4, 0, 9.0), answer(7), up(2, 0, 8.5)):
         step(play)
-    for device in (play.device, Device(), replace(play.device, why="x", rests_until=9, rises=2)):
+    for device in (play.device, Device(), play.device._replace(why="x", rests_until=9, rises=2)):
         known: Any = Known(device, 1e9)
         assert known_of(dict(zip(COLUMNS, row_of("00", known)))) == known
