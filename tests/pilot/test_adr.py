@@ -19,7 +19,7 @@ from .whole import Dashboard
 FIRST, SECOND = "70B3D57ED0000001", "70B3D57ED0000002"
 COMMANDS = "application/3/device/+/command/+"
 LATER = 867_100_000
-# requests for DR5 and full power, for DR3, and for the status
+# requests for DR5 and full power, and for the status
 TO_5, STATUS = "0350FF0001", "06"
 
 
@@ -246,9 +246,10 @@ def test_status(service: Service) -> None:
     service.up(4, 3)
     service.say(FIRST, "status", {"margin": 20, "batteryLevel": 50.39})
     service.up(7)
-    assert service.asked(2)[1] == (TO_5, "adr-1-7")
+    # the mean of eight uplinks is -0.5 dB, so 5.5 dB count: 4 steps
+    assert service.asked(2)[1] == ("0340FF0001", "adr-1-7")
     service.say(FIRST, "mac", {"joinNonce": 1, "commands": "0307"})
-    service.up(8, 12, rate=5)
+    service.up(8, 12, rate=4, snr=-3.0)
     assert len(service.asked(2)) == 2
 
 

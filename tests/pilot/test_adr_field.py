@@ -253,5 +253,7 @@ def test_field(field: Field, dashboard: Dashboard) -> None:
         assert row["why"] == meter.kind.why, meter.kind.name
         assert meter.kind.has_eight or settings == [], meter.kind.name
         assert len(settings) <= 5, meter.kind.name
-        assert dashboard.of(meter.dev_eui, "status"), f"status of {meter.kind.name}"
+        assert b"\x06" in meter.asked, f"status of {meter.kind.name}"
     assert field.meters[0].power > 0, "the power of a loud meter"
+    kinds = {kind for _, kind, _ in dashboard.events}
+    assert {"status", "mac", "macqueued"} <= kinds, "events, some before the broker was away"
