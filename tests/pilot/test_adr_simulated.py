@@ -1,0 +1,74 @@
+"""The model of meters and gateways by which tools/simulate-adr compares rules."""
+
+import sys
+from importlib.machinery import SourceFileLoader
+from importlib.util import module_from_spec, spec_from_loader
+from pathlib import Path
+from typing import Any
+
+import adr_model
+import pytest
+from adapting.rule import Setting
+
+TOOL = Path(__file__).resolve().parents[2] / "tools/simulate-adr"
+# how long 25 bytes are on the air at data rate 0, in seconds
+AT_DR0 = 1.482752
+
+
+@pytest.fixture(scope="module")
+def tool() -> Any:
+    """The tool as a module."""
+    loader = SourceFileLoader("simulate_adr", str(TOOL))
+    spec = spec_from_loader(loader.name, loader)
+    assert spec
+    made = sys.modules[loader.name] = module_from_spec(spec)
+    loader.exec_module(made)
+    return made
+
+
+def test_without_a_rule(tool: Any) -> None:
+    """Without ADR each uplink takes its time at data rate 0."""
+    outcome, meters = tool.simulate(adr_model.Field(20, 0.5), tool.no_rule)
+    assert {meter.setting for meter in meters} == {Setting(0)}
+    assert outcome.each(outcome.air) == pytest.approx(AT_DR0)
+    assert outcome.asked == 0
+
+
+def frame(begin: float, snr: float) -> adr_model.Frame:
+    """A frame of a second with data rate 5, which all gateways hear with this SNR."""
+    meter = adr_model.Meter(0, [])
+    return adr_model.Frame(meter, 0, begin, begin + 1.0, 0, Setting(5), [snr] * 3)
+
+
+# two frames' SNRs and when the second begins; which of them are heard
+COLLISIONS = (
+    ((5.0, 5.0), 0.5, (False, False)),
+    ((5.0, 5.0), 1.0, (True, True)),
+    ((9.0, 2.0), 0.5, (True, False)),
+    ((2.0, 8.0), 0.5, (False, True)),
+    ((2.0, 7.5), 0.5, (False, False)),
+    # below the floor of data rate 5, -7.5 dB
+    ((-8.0, 5.0), 0.5, (False, True)),
+)
+
+
+@pytest.mark.parametrize("snrs, begin, due", COLLISIONS)
+def test_collision(snrs: tuple, begin: float, due: tuple) -> None:
+    """Of two frames that overlap one is heard if it is 6 dB louder."""
+    frames, air = [frame(0.0, snrs[0]), frame(begin, snrs[1])], adr_model.Air()
+    for each in frames:
+        air.put(each)
+    assert tuple(each.best() is not None for each in frames) == due
+
+
+def test_falling_back() -> None:
+    """A meter that isn't heard has full power after 96 uplinks, and a lower data rate after each
+    32 more (TS001-1.0.4 §4.3.1.1)."""
+    meter = adr_model.Meter(0, [], Setting(3, 2))
+    found = {}
+    for count in range(1, 200):
+        before = meter.setting
+        meter.falls_back()
+        if meter.setting != before:
+            found[count] = (meter.setting.rate, meter.setting.power)
+    assert found == {96: (3, 0), 128: (2, 0), 160: (1, 0), 192: (0, 0)}
