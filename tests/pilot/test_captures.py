@@ -135,7 +135,7 @@ def test_two_files_in_turn(parts: Parts) -> None:
 
 
 def test_capture_that_cant_be_written(parts: Parts) -> None:
-    """A device is no file for a capture, and stays where it is."""
+    """A special file isn't taken for a capture, and is left as it was."""
     words = ("--network", "h:1", "--udp", "127.0.0.1:1", "--gateway", GATEWAYS[0])
     status, _, said = run("gateways-udp", *words, "--capture", "/dev/null")
     assert (status, said) == (1, "gateways-udp: /dev/null: File exists\n")
