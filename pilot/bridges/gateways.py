@@ -249,6 +249,13 @@ def add_words(options: words.Words, power: int, unit: str = "dBm") -> None:
         metavar="SECONDS",
         help="closes a gateway's link if nothing came for this long, 1 to 86400 (120)",
     )
+    add_powers(options, power, unit)
+    add_capture(options)
+    options.add_argument("--counts", metavar="FILE", help=COUNTS_HELP)
+
+
+def add_powers(options: words.Words, power: int, unit: str) -> None:
+    """The options about the power with which gateways send."""
     options.add_argument(
         "--power",
         type=words.between(-10, 30),
@@ -262,8 +269,6 @@ def add_words(options: words.Words, power: int, unit: str = "dBm") -> None:
         metavar="DBM",
         help="the same in RX2, on 869.525 MHz (as --power)",
     )
-    add_capture(options)
-    options.add_argument("--counts", metavar="FILE", help=COUNTS_HELP)
 
 
 def add_capture(options: words.Words) -> None:
