@@ -3,6 +3,7 @@ a lookout, and what plays meters and gateways. What takes the console's requests
 
 import asyncio
 import threading
+import urllib.request
 from pathlib import Path
 from typing import Any
 
@@ -112,6 +113,14 @@ class Whole:
         """A meter sends a reading, which isn't confirmed."""
         self.send(meter.reads(confirmed=False), **how)
         self.air.go_on(0.6)
+
+    def shows(self, path: str) -> bool:
+        """Whether the console has a page."""
+        try:
+            with urllib.request.urlopen(f"{self.address}{path}", timeout=30) as response:
+                return int(response.status) == 200
+        except OSError:
+            return False
 
     def end(self) -> None:
         """Ends all of it."""

@@ -2,8 +2,10 @@
 
 import time
 from collections.abc import Iterator
+from functools import partial
 
 import pytest
+from bozintar.processes import await_that
 
 from . import browsers
 from .browsers import SCHEMES, WIDTHS, Browser
@@ -47,6 +49,8 @@ def network(program: str) -> Iterator[Whole]:
             made.read(made.meters[0])
         made.meters[0].reads()  # one that no gateway hears
         made.read(made.meters[0])
+        for path in (f"/devices/{eui}" for eui in (HEARD, WRONG, NEVER)):
+            await_that(f"the console has {path}", partial(made.shows, path), 60)
         yield made
     finally:
         made.end()
