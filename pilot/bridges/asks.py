@@ -4,12 +4,10 @@ broker, whose other clients may see them."""
 import asyncio
 import os
 import re
-import socket
-import stat
 from collections.abc import Awaitable, Callable
 
+from bozintar.local import listener
 from bozintar.logs import log
-from bozintar.words import stop
 
 # a request of docs/FORMATS.md, and which of its words its answer repeats
 REQUESTS = {"provision": ("provisioned", 1), "queue": ("queued", 2), "mac": ("macqueued", 2)}
@@ -61,20 +59,3 @@ class Asks:
         finally:
             if os.path.exists(self.path):
                 os.unlink(self.path)
-
-
-def listener(path: str) -> socket.socket:
-    """A socket that its owner and its group may write to, in place of one that was left over."""
-    try:
-        if os.path.lexists(path):
-            if not stat.S_ISSOCK(os.lstat(path).st_mode):
-                stop(f"{path} is there already, and is no socket")
-            os.unlink(path)
-        made, before = socket.socket(socket.AF_UNIX), os.umask(0o117)
-        try:
-            made.bind(path)
-        finally:
-            os.umask(before)
-        return made
-    except OSError as why:
-        stop(f"{path} can't be made: {why.strerror or why}")
