@@ -1,5 +1,7 @@
 """Quick checks of the sources: nothing is proved, compiled or run for them."""
 
+from pathlib import Path
+
 import pytest
 
 from .running import passes, python_files
@@ -32,7 +34,8 @@ def test_python(linter: str) -> None:
 
 
 @pytest.mark.parametrize("is_pilots", [True, False], ids=["pilot", "others"])
-def test_types(is_pilots: bool) -> None:
-    """Debian's mypy accepts all types. It takes no two programs of one name at once."""
+def test_types(is_pilots: bool, tmp_path: Path) -> None:
+    """Debian's mypy accepts all types. It takes no two programs of one name at once, and two runs
+    at once can't share what it keeps."""
     files = [name for name in python_files() if name.startswith("pilot/") == is_pilots]
-    passes("/usr/bin/python3", "-m", "mypy", *files)
+    passes("/usr/bin/python3", "-m", "mypy", f"--cache-dir={tmp_path}", *files)

@@ -3,7 +3,7 @@
 from .conftest import SIMULATOR
 from .running import passes
 
-CALLS = ("--calls", "crates/memory_calls/out/memory_calls")
+CALLS = ("--calls", "crates/calls_without_memory/out/calls_without_memory")
 
 
 def test_simulator_without_memory(simulator: str) -> None:

@@ -158,11 +158,13 @@ def put_documents(tree: Tree) -> None:
         tree.copy(name, f"{DOC}/{Path(name).name}")
     tree.copy("pilot/README.md", f"{DOC}/PILOT.md")
     tree.copy("pilot/console/README.md", f"{DOC}/CONSOLE.md")
+    tree.copy("pilot/adr.md", f"{DOC}/ADR.md")
     # dh_installchangelogs would take a CHANGELOG for Debian's own
     tree.copy("CHANGELOG.md", f"{DOC}/NEWS.md")
     tree.copy(f"{SETTINGS}/README.Debian", f"{DOC}/README.Debian")
     for name in tree.tracked("pilot"):
         if name.endswith(EXAMPLES):
             tree.copy(name, f"{DOC}/examples/{Path(name).name}")
-    for name in ("lnsd.conf", "bridges.conf", "console.conf", "gateways"):
+    settings = ("lnsd.conf", "bridges.conf", "console.conf", "door.conf", "gateways", "adr-except")
+    for name in settings:
         tree.copy(f"{SETTINGS}/{name}", f"etc/bozintar/{name}")

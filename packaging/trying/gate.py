@@ -17,10 +17,10 @@ from .counting import Trials, needed, run
 
 # The package may have at most this many bytes.
 MOST_BYTES = 6 << 20
-SETTINGS = ("bridges.conf", "console.conf", "gateways", "lnsd.conf")
+SETTINGS = ("adr-except", "bridges.conf", "console.conf", "door.conf", "gateways", "lnsd.conf")
 CONFFILES = {f"/etc/bozintar/{name}" for name in SETTINGS}
 # The users that the package makes.
-USERS = ("lnsd", "bozintar", "bozintar-console")
+USERS = ("lnsd", "bozintar", "bozintar-console", "bozintar-door")
 # Where the package may have files.
 PLACES = ("etc/bozintar/", "lib/systemd/system/", "usr/")
 # What runs the second build: another time zone, language, umask and folder for temporary files.

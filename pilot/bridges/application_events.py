@@ -12,12 +12,13 @@ from bozintar import fields
 from bozintar.fields import Wrong
 from bozintar.wire import byte_text, bytes_of
 
+from .mac_commands import DEV_STATUS, sent_commands
+
 # of identifiers that follow from what they name, so that what comes twice has the same one
 SPACE = uuid.UUID("6f7a0c0e-7d0b-5f0e-9d57-0a3c5e1f7b21")
 MOST_ITEM, MOST_MAC = 242, 128
 # an event's kind, and what it says besides whose it is and when
 Named = tuple[str, dict]
-DEV_STATUS_ANS = 6
 # the numbers of docs/FORMATS.md that a request may be refused with
 REFUSALS = {
     7: ("UNKNOWN_DEVICE", "no device of this application has this DevEUI"),
@@ -171,9 +172,9 @@ class Translator:
         # the names of devices that have one
         self.devices: dict[str, str] = {}
 
-    def event(self, line: str, time: str) -> Event:
-        """The event of a line. `time` is when it came. A later server may add words at the end of a
-        line, which are ignored."""
+    def event(self, line: str, time: str, bounds: dict | None = None) -> Event:
+        """The event of a line. `time` is when it came, and `bounds` what else is said of that. A
+        later server may add words at the end of a line, which are ignored."""
         kind, device, *words = line.split(" ")
         of_kind: dict[str, Callable[..., Named]] = {
             "up": self.up,
@@ -188,8 +189,19 @@ class Translator:
         if not re.fullmatch("[0-9A-F]{16}", device):
             raise Wrong(f"a line {kind} of no device")
         name, body = of_kind[kind](device, *words)
-        base = {"time": time, "deviceInfo": self.device_info(device)}
+        base = {"time": time, **(bounds or {}), "deviceInfo": self.device_info(device)}
         return Event(device, name, {**base, **body})
+
+    def events(self, line: str, time: str, bounds: dict | None = None) -> list[Event]:
+        """The events of a line: that of `event`, and one for each status that came beside other
+        MAC commands."""
+        first = self.event(line, time, bounds)
+        if first.kind != "mac":
+            return [first]
+        base = {name: first.body[name] for name in ("time", *(bounds or {}), "deviceInfo")}
+        sent = sent_commands(bytes_of(first.body["commands"]))
+        bodies = [{**base, **status(*payload)} for kind, payload in sent if kind == DEV_STATUS]
+        return [first, *(Event(first.device, "status", body) for body in bodies)]
 
     def device_info(self, device: str) -> dict:
         """Whose event it is."""
@@ -246,7 +258,7 @@ class Translator:
     def mac(self, _device: str, session: str, commands: str, *_more: str) -> Named:
         """The device sent MAC commands; its status has an event of its own."""
         said = bytes_of(commands)
-        if len(said) == 3 and said[0] == DEV_STATUS_ANS:
+        if len(said) == 3 and said[0] == DEV_STATUS:
             return "status", status(said[1], said[2])
         return "mac", {"joinNonce": int(session), "commands": commands}
 

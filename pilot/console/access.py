@@ -9,6 +9,8 @@ from collections.abc import Mapping
 from dataclasses import dataclass
 from typing import Any
 
+from bozintar.certificates import server_context
+
 LOOPBACK = ("127.0.0.1", "::1")
 NAME = re.compile("(operator|reader)-([a-z0-9](?:[a-z0-9-]{0,30}[a-z0-9])?)")
 POLICY = (
@@ -89,10 +91,7 @@ class Access:
             raise Refused(403, "This form is too old. Load the page again.")
 
 
-def secure(certificate: str, key: str, clients: str) -> ssl.SSLContext:
-    """TLS with certificates of both ends. `clients` is the authority of the browsers' ones."""
-    context = ssl.create_default_context(ssl.Purpose.CLIENT_AUTH, cafile=clients)
-    context.minimum_version = ssl.TLSVersion.TLSv1_2
-    context.verify_mode = ssl.CERT_REQUIRED
-    context.load_cert_chain(certificate, key)
-    return context
+def secure(certificate: str, key: str, clients: str, crl: str | None = None) -> ssl.SSLContext:
+    """TLS with certificates of both ends. `clients` is the authority of the browsers' ones, and
+    `crl` its list of revoked ones."""
+    return server_context(clients, certificate, key, crl)

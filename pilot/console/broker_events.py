@@ -5,11 +5,12 @@ import re
 import time
 from collections.abc import Callable
 
+from adapting.rule import MOST_POWER, MOST_RATE, Setting
 from bozintar import fields
 from bozintar.fields import Wrong
 
 from . import history, mac_commands
-from .devices import Device, Report, Session, Uplink
+from .devices import Adaption, Device, Report, Session, Uplink
 from .network import Network
 
 TOPICS = ["application/+/device/+/event/+"]
@@ -18,7 +19,8 @@ EUI = re.compile(r"[0-9A-F]{16}")
 MOST_PAYLOAD, MOST_TEXT = 10_000, 160
 # more than any store has room for
 MOST_DEVICES = 8192
-MOST_COUNTER, MOST_NONCE = 2**32 - 1, 2**24 - 1
+MOST_COUNTER, MOST_NONCE, MOST_TRIES = 2**32 - 1, 2**24 - 1, 100
+SETTING = (("dr", MOST_RATE), ("txPower", MOST_POWER))
 # how the history marks a device with another source of power than a battery
 ON_MAINS = -1.0
 
@@ -112,6 +114,32 @@ def take_mac_queued(network: Network, device: Device, said: dict) -> None:
     network.note("mac", device.eui, f"Downlink queued: {text[:MOST_TEXT]}")
 
 
+def take_adr(network: Network, device: Device, said: dict) -> None:
+    """What the program adr believes of the device."""
+    before, device.adaption = device.adaption, adaption_of(said)
+    now, setting = device.adaption, device.adaption.setting
+    if now.why and (not before or now.why != before.why):
+        network.note("adr", device.eui, f"ADR leaves it alone: {now.why}")
+    elif setting and before and setting != before.setting:
+        network.note("adr", device.eui, f"ADR: it sends with {setting}")
+    given = (setting.rate, setting.power) if setting else (None, None)
+    rest = (now.is_sure, now.asked, now.tries, now.why, now.until)
+    network.kept.add(history.ADAPTION, device.eui, now.came, *given, *rest)
+
+
+def adaption_of(said: dict) -> Adaption:
+    """What an event of adr says. Of a device of --except it says only that."""
+    why = fields.text(said, "leftAlone")[:MOST_TEXT]
+    if "dr" not in said:
+        return Adaption(time.time(), why=why)
+    rate, power = (fields.whole(said, name, 0, most) for name, most in SETTING)
+    until = fields.whole(said, "until", 0, MOST_COUNTER) if "until" in said else None
+    asked = mac_commands.requests(fields.text(said, "asked")[:256])[:MOST_TEXT]
+    tries = fields.whole(said, "tries", 0, MOST_TRIES)
+    is_sure = is_true(said, "isPowerKnown")
+    return Adaption(time.time(), Setting(rate, power), is_sure, asked, tries, why, until)
+
+
 def take_log(network: Network, device: Device, said: dict) -> None:
     """Something went wrong."""
     text = f"{fields.text(said, 'code')[:40]}: {fields.text(said, 'description')}"
@@ -138,5 +166,6 @@ TAKERS: dict[str, Callable[[Network, Device, dict], None]] = {
     "queued": take_queued,
     "mac": take_mac,
     "macqueued": take_mac_queued,
+    "adr": take_adr,
     "log": take_log,
 }

@@ -15,6 +15,7 @@ FILTERS = {
     "missing": "Missing readings",
     "weak": "Weak signal",
     "battery": "Low battery",
+    "alone": "Left alone by ADR",
 }
 PER_PAGE, LONGEST_SEARCH = 50, 100
 Key = Callable[[Device], tuple]
@@ -86,6 +87,7 @@ def filters_of(device: Device, now: float) -> list[str]:
         "missing": device.missing > 0,
         "weak": device.is_weak,
         "battery": device.has_low_battery,
+        "alone": device.is_left_alone,
     }
     return ["all", *(name for name, is_so in passed.items() if is_so)]
 

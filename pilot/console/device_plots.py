@@ -4,7 +4,8 @@ the data rate, RSSI, and data rates."""
 from dataclasses import dataclass
 from typing import Any
 
-from .devices import FLOORS
+from adapting.rule import FLOORS
+
 from .history import MONTH, History
 from .plots import WIDTH, Plot, Point, Series
 

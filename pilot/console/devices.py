@@ -3,8 +3,8 @@
 from collections import deque
 from dataclasses import dataclass, field
 
-# the least SNR at which each data rate is heard, in dB (the floors of docs/FORMATS.md)
-FLOORS = (-20.0, -17.5, -15.0, -12.5, -10.0, -7.5)
+from adapting.rule import FLOORS, Setting
+
 # how many of the last uplinks an interval and a margin are made of, and how many gaps an interval
 # needs at least
 RECENT, LEAST_GAPS = 20, 3
@@ -45,6 +45,21 @@ class Report:
 
 
 @dataclass(frozen=True)
+class Adaption:
+    """What the program adr believes of a device: what it sends with, or None if adr leaves it out;
+    the MAC command that it is asked for, in hex, and how often it was; why it is left alone, and
+    until which counter if that isn't for the session."""
+
+    came: float
+    setting: Setting | None = None
+    is_sure: bool = False
+    asked: str = ""
+    tries: int = 0
+    why: str = ""
+    until: int | None = None
+
+
+@dataclass(frozen=True)
 class Uplink:
     """How an uplink was heard by its best gateway."""
 
@@ -78,6 +93,7 @@ class Device:
     heard: int = 0
     uplink: Uplink | None = None
     report: Report | None = None
+    adaption: Adaption | None = None
     sessions: dict[int, Session] = field(default_factory=dict)
     recent: deque[Uplink] = field(default_factory=lambda: deque(maxlen=RECENT))
     # what follows from these, since pages need it of all devices at once
@@ -139,6 +155,11 @@ class Device:
     def has_low_battery(self) -> bool:
         """Whether its last report had a low battery."""
         return self.report is not None and self.report.is_low
+
+    @property
+    def is_left_alone(self) -> bool:
+        """Whether adr leaves it alone."""
+        return self.adaption is not None and bool(self.adaption.why)
 
 
 @dataclass

@@ -6,11 +6,11 @@ import secrets
 from collections.abc import Mapping
 from dataclasses import dataclass
 
+from adapting.rule import Setting
 from aiohttp import BodyPartReader, web
 from bridges.devices import Devices, in_lines
 
 from .access import Refused
-from .mac_commands import power_dbm
 
 MOST_BODY, MOST_ROWS, MOST_PAYLOAD = 400_000, 4096, 242
 # the columns of a form's fields
@@ -69,10 +69,9 @@ def command(eui: str, form: Form) -> Request:
         return Request(f"mac {eui} 06", "Downlink queued: DevStatusReq")
     if what == "adr":
         rate = whole(form, "rate", 0, 5, "The data rate")
-        power = whole(form, "power", 0, 7, "The power")
-        # ChMask 00FF: the eight channels; NbTrans 1 (TS001-1.0.4 §5.2)
-        line = f"mac {eui} 03{rate << 4 | power:02X}FF0001"
-        return Request(line, f"Downlink queued: LinkADRReq DR{rate}, {power_dbm(power)} dBm")
+        setting = Setting(rate, whole(form, "power", 0, 7, "The power"))
+        line = f"mac {eui} {setting.command().hex().upper()}"
+        return Request(line, f"Downlink queued: LinkADRReq {setting}")
     raise ValueError("The form has no command.")
 
 

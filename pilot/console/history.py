@@ -25,6 +25,8 @@ CREATE TABLE IF NOT EXISTS minutes (minute INTEGER PRIMARY KEY, uplinks INTEGER,
     refused INTEGER, joins INTEGER, dropped INTEGER, sync_us INTEGER);
 CREATE TABLE IF NOT EXISTS gateway_hours (gateway TEXT, hour INTEGER, best INTEGER, snr_sum REAL,
     last REAL, PRIMARY KEY (gateway, hour)) WITHOUT ROWID;
+CREATE TABLE IF NOT EXISTS adaptions (device TEXT PRIMARY KEY, came REAL, rate INTEGER,
+    power INTEGER, is_sure INTEGER, asked TEXT, tries INTEGER, why TEXT, until INTEGER);
 CREATE TABLE IF NOT EXISTS names (eui TEXT PRIMARY KEY, name TEXT);
 """
 UPLINK = "INSERT OR IGNORE INTO uplinks VALUES (?, ?, ?, ?, ?, ?, ?, ?, ?, ?, ?, ?)"
@@ -33,6 +35,7 @@ STATUS = "INSERT OR IGNORE INTO statuses VALUES (?, ?, ?, ?)"
 EVENT = "INSERT INTO events (came, kind, of, text) VALUES (?, ?, ?, ?)"
 MINUTE = "INSERT OR REPLACE INTO minutes VALUES (?, ?, ?, ?, ?, ?, ?)"
 HOUR = "INSERT OR REPLACE INTO gateway_hours VALUES (?, ?, ?, ?, ?)"
+ADAPTION = "INSERT OR REPLACE INTO adaptions VALUES (?, ?, ?, ?, ?, ?, ?, ?, ?)"
 NAME = "INSERT OR REPLACE INTO names VALUES (?, ?)"
 MONTH, YEAR = 31 * 86_400, 366 * 86_400
 # how many events stay, however many a stranger causes

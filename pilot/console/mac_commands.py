@@ -1,13 +1,10 @@
 """MAC commands in words (TS001-1.0.4 §5), as far as the console knows them."""
 
-LINK_ADR, DEV_STATUS = 3, 6
+from adapting.rule import MASK_ACK, POWER_ACK, RATE_ACK, Setting
+from bridges.mac_commands import DEV_STATUS, LINK_ADR
+
 # the bits of LinkADRAns, of which each accepts a part of the request (§5.2)
-PARTS = ((4, "power"), (2, "data rate"), (1, "channels"))
-
-
-def power_dbm(power: int) -> int:
-    """The transmit power of a TXPower of EU868 in dBm (RP002, EU863-870 TX power table)."""
-    return 16 - 2 * power
+PARTS = ((POWER_ACK, "power"), (RATE_ACK, "data rate"), (MASK_ACK, "channels"))
 
 
 def requests(commands: str) -> str:
@@ -39,7 +36,7 @@ def in_words(commands: str, known: dict) -> str:
 
 def link_adr_req(command: bytes) -> str:
     """LinkADRReq: its first byte has the data rate and the power."""
-    return f"LinkADRReq DR{command[1] >> 4}, {power_dbm(command[1] & 15)} dBm"
+    return f"LinkADRReq {Setting(command[1] >> 4, command[1] & 15)}"
 
 
 def link_adr_ans(command: bytes) -> str:

@@ -6,8 +6,20 @@ from collections import deque
 from collections.abc import Iterable
 from dataclasses import astuple, dataclass
 
+from adapting.rule import Setting
+
 from . import history
-from .devices import RECENT, Device, Gateway, GatewayHour, Refused, Report, Session, Uplink
+from .devices import (
+    RECENT,
+    Adaption,
+    Device,
+    Gateway,
+    GatewayHour,
+    Refused,
+    Report,
+    Session,
+    Uplink,
+)
 from .history import History
 
 DAY = 86_400
@@ -21,6 +33,7 @@ GATEWAYS = "SELECT gateway, hour, best, snr_sum, last FROM gateway_hours WHERE h
 UPLINKS = """SELECT came, gateway, snr, rssi, rate FROM uplinks WHERE device = ?
     ORDER BY session DESC, counter DESC LIMIT ?"""
 REPORTS = "SELECT device, max(came), margin, battery FROM statuses GROUP BY device"
+ADAPTIONS = "SELECT * FROM adaptions"
 EVENTS = "SELECT came, kind, of, text FROM events ORDER BY number DESC LIMIT ?"
 MINUTES = "SELECT * FROM minutes WHERE minute >= ? ORDER BY 1"
 
@@ -90,6 +103,9 @@ class Network:
             device.update()
         for eui, came, margin, battery in self.kept.rows(REPORTS):
             self.device(eui).report = report_of(came, margin, battery)
+        for eui, came, rate, power, is_sure, *rest in self.kept.rows(ADAPTIONS):
+            setting = None if rate is None else Setting(rate, power)
+            self.device(eui).adaption = Adaption(came, setting, bool(is_sure), *rest)
         self.events.extend(Event(*row) for row in self.kept.rows(EVENTS, MOST_EVENTS))
 
     def device(self, eui: str) -> Device:

@@ -10,6 +10,7 @@ from hashlib import sha256
 from pathlib import Path
 from typing import Any
 
+from adapting.rule import power_dbm
 from aiohttp import web
 from bozintar.logs import log
 from bridges.devices import Row
@@ -18,7 +19,6 @@ from jinja2 import Environment, FileSystemLoader, StrictUndefined
 from . import attention, device_list, device_plots, forms, overview, plots, text
 from .access import HEADERS, Access, Refused, User
 from .devices import Device
-from .mac_commands import power_dbm
 from .network import EVENTS, Event, Network
 from .refusals import refusal
 from .requests import UNANSWERED, Answer, Bridges, answer_of

@@ -13,6 +13,8 @@ from .words import Words, is_program
 
 BUILT = str(Path(__file__).resolve().parents[2] / "crates/lnsd/out/lnsd")
 Ended = tuple[int, str, str]
+# the lines of devices, and a moment
+Listed = tuple[list[str], int]
 
 
 class ProgramWords(Words):
@@ -125,6 +127,18 @@ class Program:
         if status or said:
             raise Failed(f"lnsd status ended with status {status}: {said.strip()}")
         return dict(line.split(" ", 1) for line in out.splitlines())
+
+    def devices(self, store: str = "", **how: Any) -> Listed:
+        """The lines of the devices of a server whose links come and go, and the moment, in
+        milliseconds since its start."""
+        status, out, said = self.run("devices", store or self.store, **how)
+        if status or said:
+            raise Failed(f"lnsd devices ended with status {status}: {said.strip()}")
+        *lines, last = out.splitlines()
+        name, _, now = last.partition(" ")
+        if name != "now" or not now.isdecimal():
+            raise Failed(f"lnsd devices printed no moment, but: {last}")
+        return lines, int(now)
 
     def ended(self, seconds: float = 60) -> Ended:
         """Waits for the server's end; its status, what it printed on standard output after it

@@ -191,6 +191,11 @@ class Console:
         """A page."""
         return self.run(self.request("GET", path, **how))
 
+    def device_page(self, *events: tuple[str, bytes]) -> str:
+        """What the page of DEVICE shows after events."""
+        self.events(*events)
+        return self.get(f"/devices/{DEVICE}").text
+
     def post(self, path: str, form: Any, **how: Any) -> Page:
         """A form is sent as a browser sends it; the page that follows."""
         headers = {"Origin": self.origin, "Sec-Fetch-Site": "same-origin"}

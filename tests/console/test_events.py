@@ -1,11 +1,14 @@
 """Events of the broker, as applications-mqtt publishes them: ChirpStack's fields, and nothing of
 them is believed."""
 
+from dataclasses import replace
 from typing import Any
 
 import pytest
 from bozintar.fields import Wrong
 from console import broker_events
+from console.devices import Device
+from console.network import Network
 
 from .sites import DEVICE, GATEWAY, Clock, Console, event, up
 
@@ -33,6 +36,26 @@ SHOWN = [
     ("macqueued", {"commands": "0330FF0001"}, "Downlink queued: LinkADRReq DR3, 16 dBm"),
     ("macqueued", {"commands": "06"}, "Downlink queued: DevStatusReq"),
     ("log", {"code": "QUEUE_FULL", "description": "16 items wait"}, "Error QUEUE_FULL: 16 items"),
+]
+# what adr reports of a device that it has asked for DR5 (0350FF0001)
+ADR: dict[str, Any] = {"joinNonce": 1, "dr": 0, "txPower": 0, "isPowerKnown": True}
+ADR |= {"asked": "0350FF0001", "tries": 1, "leftAlone": ""}
+LISTENS: dict[str, Any] = {**ADR, "asked": "", "tries": 0}
+# each event of adr, and what the device's page shows then
+ADRS: list[tuple[dict, str]] = [
+    (LISTENS, "Adaptive data rate Sends with DR0, 16 dBm Downlinks"),
+    (ADR, "Sends with DR0, 16 dBm; asked for LinkADRReq DR5, 16 dBm, 0 s ago"),
+    ({**ADR, "tries": 2}, "asked for LinkADRReq DR5, 16 dBm, 2 times, 0 s ago"),
+    ({**ADR, "asked": "06"}, "asked for DevStatusReq, 0 s ago"),
+    ({**LISTENS, "dr": 5, "txPower": 7}, "Sends with DR5, 2 dBm Downlinks"),
+    ({**LISTENS, "isPowerKnown": False}, "Sends with DR0, 16 dBm (the power isn't known)"),
+    ({**LISTENS, "leftAlone": "it is deaf"}, "Left alone: it is deaf. Sends with DR0, 16 dBm"),
+    (
+        {**LISTENS, "leftAlone": "it is deaf", "until": 516},
+        "Left alone until counter 516: it is deaf. Sends with",
+    ),
+    # of a device that it must not ask adr knows nothing
+    ({"leftAlone": "it is in the file of --except"}, "Left alone: it is in the file of --except"),
 ]
 STATUS: dict[str, Any] = {"externalPowerSource": False, "batteryLevelUnavailable": False}
 WRONG: list[tuple[str, bytes]] = [
@@ -66,6 +89,14 @@ WRONG: list[tuple[str, bytes]] = [
     event(DEVICE, "ack", {"acknowledged": True}),
     event(DEVICE, "mac", {"commands": 7}),
     event(DEVICE, "log", {"code": 7, "description": ""}),
+    event(DEVICE, "adr", {}),
+    event(DEVICE, "adr", {**ADR, "dr": 6}),
+    event(DEVICE, "adr", {**ADR, "txPower": 8}),
+    event(DEVICE, "adr", {**ADR, "isPowerKnown": 1}),
+    event(DEVICE, "adr", {**ADR, "asked": 7}),
+    event(DEVICE, "adr", {**ADR, "tries": -1}),
+    event(DEVICE, "adr", {**ADR, "until": 2**32}),
+    event(DEVICE, "adr", {"leftAlone": None}),
 ]
 
 
@@ -74,6 +105,34 @@ def test_events(console: Console, kind: str, said: dict, shown: str) -> None:
     """Each kind of event is shown."""
     console.events(event(DEVICE, kind, {**STATUS, **said} if kind == "status" else said))
     assert shown in console.get(f"/devices/{DEVICE}").text
+
+
+@pytest.mark.parametrize("said, shown", ADRS)
+def test_adr(console: Console, said: dict, shown: str) -> None:
+    """What adr believes of a device, what it has asked for, and why it leaves the device alone."""
+    assert "Nothing reported by adr" in console.device_page(up(DEVICE, 0))
+    assert shown in console.device_page(event(DEVICE, "adr", said))
+
+
+def test_events_of_adr(console: Console) -> None:
+    """A change of what a device sends with is an event, and so is that it is left alone."""
+    settings = (LISTENS, {**LISTENS, "dr": 5}, {**LISTENS, "dr": 5, "leftAlone": "it is deaf"})
+    text = console.device_page(*(event(DEVICE, "adr", said) for said in (*settings, settings[-1])))
+    assert text.count("ADR: it sends with DR5, 16 dBm") == 1
+    assert text.count("ADR leaves it alone: it is deaf") == 1
+    assert "Left alone by ADR 1" in console.get("/devices").text
+    assert DEVICE in console.get("/devices?show=alone").text
+    console.events(event(DEVICE, "adr", LISTENS))
+    assert "Left alone by ADR 0" in console.get("/devices").text
+
+
+@pytest.mark.parametrize("said", [said for said, _ in ADRS])
+def test_adr_over_a_restart(console: Console, said: dict) -> None:
+    """A console that starts again knows what adr has reported."""
+    console.events(event(DEVICE, "adr", said))
+    assert Network(console.kept).devices[DEVICE] == replace(
+        Device(DEVICE), adaption=console.network.devices[DEVICE].adaption
+    )
 
 
 @pytest.mark.parametrize("topic, payload", WRONG)

@@ -13,7 +13,7 @@ FIRST, SECOND, THIRD, FOURTH = (f"70B3D57ED000000{number}" for number in range(1
 @pytest.fixture
 def field(console: Console, clock: Clock) -> Console:
     """Four devices: one is silent and has missing readings, one is weak with a low battery, one has
-    joined and was never heard, one has never joined."""
+    joined, was never heard, and is left alone by ADR, one has never joined."""
     joined = [listed(slot, eui) for slot, eui in enumerate((FIRST, SECOND, THIRD))]
     console.serves(*joined, listed(3, FOURTH, 0, "-"))
     for eui, name in NAMES.items():
@@ -25,6 +25,7 @@ def field(console: Console, clock: Clock) -> Console:
     console.events(up(SECOND, 0, rate=5, snr=-6.0))
     battery = {"margin": 1, "externalPowerSource": False, "batteryLevelUnavailable": False}
     console.events(event(SECOND, "status", {**battery, "batteryLevel": 9.0}))
+    console.events(event(THIRD, "adr", {"leftAlone": "it is in the file of --except"}))
     return console
 
 
@@ -44,6 +45,7 @@ def shown(console: Console, query: str) -> list[str]:
         ("missing", {FIRST}),
         ("weak", {SECOND}),
         ("battery", {SECOND}),
+        ("alone", {THIRD}),
         ("unknown", {FIRST, SECOND, THIRD, FOURTH}),
     ],
 )

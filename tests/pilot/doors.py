@@ -1,4 +1,4 @@
-"""The doors: the server behind stunnel, and the broker's port for what comes from outside."""
+"""The doors: the server with its TLS door, and the broker's port for clients from outside."""
 
 import os
 import shutil
@@ -6,7 +6,7 @@ import socket
 import ssl
 
 from bozintar import wire
-from bozintar.processes import HOST, Failed, command, free_port, read
+from bozintar.processes import HOST, Failed, command, free_port
 
 from .field import APPLICATION, GATEWAYS
 from .parts import PILOT, Pilot, run
@@ -57,6 +57,7 @@ class Certificates:
             ("gateway", OTHERS),
             ("application", str(APPLICATION)),
             ("application", f"1{APPLICATION}"),
+            ("application", str(APPLICATION), "adr"),
             ("bridge", "gateways"),
             ("bridge", f"application-{APPLICATION}"),
         ):
@@ -77,7 +78,7 @@ class Doors:
         self.pilot, self.certificates = pilot, certificates
         self.own, self.other = certificates.own, certificates.other
         self.late = certificates.late
-        self.port, self.log = free_port(), pilot.file("door.log")
+        self.port = free_port()
 
     def conf(self, name: str, *changes: tuple[str, str]) -> str:
         """The path of a file of pilot/secure."""
@@ -88,18 +89,14 @@ class Doors:
             text = text.replace(old, new)
         return self.pilot.file(name, text)
 
-    def open(self) -> None:
-        """stunnel in front of the server."""
-        conf = self.conf(
-            "stunnel-server.conf",
-            (TLS, self.own.folder),
-            ("setuid = stunnel4\nsetgid = stunnel4\n", ""),
-            (":::5601", f"{HOST}:{self.port}"),
-            ("/usr/lib/bozintar/pilot", str(PILOT)),
-            (f"door {HOST}:5600", f"door {self.pilot.network} --log {self.log}"),
-        )
-        self.stunnel = self.pilot.process("stunnel-server", command("stunnel"), conf)
-        self.stunnel.start("Configuration successful")
+    def open(self, *words: str) -> None:
+        """The door in front of the server."""
+        files: tuple = (f"--ca={self.own.folder}/ca.crt", f"--crl={self.own.folder}/ca.crl")
+        certificate, key = self.own.of("server")
+        files += (f"--certificate={certificate}", f"--key={key}", *words)
+        where = ("--listen", f"{HOST}:{self.port}", "--network", self.pilot.network)
+        self.door = self.pilot.own("secure/door", *where, *files, name="door")
+        self.door.start("listens on")
 
     def open_client(self, to: int) -> int:
         """stunnel beside a gateway, for a server at that port; the port on which it listens."""
@@ -115,10 +112,6 @@ class Doors:
         stunnel = self.pilot.process("stunnel-client", command("stunnel"), conf)
         stunnel.start("Configuration successful")
         return port
-
-    def told(self) -> list[str]:
-        """What the door has logged."""
-        return read(self.log).splitlines()
 
     def open_broker(self) -> int:
         """The broker; the port on which it listens to what comes from outside."""

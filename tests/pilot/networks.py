@@ -9,6 +9,10 @@ from bozintar import oracle
 from bozintar.processes import HOST, Failed
 
 
+# what bridges ask now and then, to find out what they have read; a network refuses it
+NO_REQUEST = b"\x03"
+
+
 class End:
     """The network's end of a link."""
 
@@ -38,7 +42,11 @@ class End:
                 return b"reset"
             if not piece:
                 return None
-            self.contents += self.stream.contents(piece)
+            for content in self.stream.contents(piece):
+                if content == NO_REQUEST:
+                    self.say(b"\x13refused 51")
+                else:
+                    self.contents.append(content)
         return self.contents.pop(0)
 
     def asked(self, seconds: float = 10.0) -> list[str]:

@@ -42,11 +42,15 @@ COUNTERS = {
     ),
     "pilot_applications_mqtt": ("events_lost", "closed_soon", "wrong_commands"),
     "pilot_readings": ("closed_soon",),
+    "pilot_adr": ("closed_soon",),
+    "pilot_door": ("too_many", "refused"),
 }
 # a pilot on which all is well: three gateways, an application, and a program that stores readings
 WELL = {
     "lnsd_up": steady(1),
-    **{FILE % name: growing(60) for name in ("lnsd", "gateways-udp", "readings-3")},
+    **{
+        FILE % name: growing(60) for name in ("lnsd", "gateways-udp", "readings-3", "adr-3", "door")
+    },
     **{
         f"lnsd_{name}_total": steady(7) for name in ("dropped", "taken_over_links", "faulted_links")
     },
@@ -58,9 +62,13 @@ WELL = {
     "lnsd_longest_sync_seconds": steady(0.5),
     **{LAST_COPY % number: growing(60, 1) for number in (1, 2, 3)},
     **{f"{of}_{name}_total": steady(7) for of, names in COUNTERS.items() for name in names},
+    "pilot_copy_seconds": steady(0),
+    "pilot_broker_messages": steady(60),
+    "pilot_broker_dropped_messages_total": steady(7),
     "pilot_gateways_mqtt_broker_connected": steady(1),
     "pilot_applications_mqtt_broker_connected" + APPLICATION: steady(1),
     "pilot_readings_broker_connected" + APPLICATION: steady(1),
+    "pilot_adr_broker_connected" + APPLICATION: steady(1),
     "pilot_readings_disk_free_bytes" + APPLICATION: steady(9e9),
     "pilot_readings_late_seconds" + APPLICATION: steady(0.1),
     OF_GATEWAY % "linked": steady(1),
@@ -77,9 +85,17 @@ WRONG: tuple = (
     ("LnsdStatusIsOld", {FILE % "lnsd": NONE}),
     ("BridgeHangs", {FILE % "gateways-udp": steady(0)}),
     ("BridgeHangs", {FILE % "readings-3": steady(0)}),
+    ("BridgeHangs", {FILE % "adr-3": steady(0)}),
+    ("BridgeHangs", {FILE % "door": steady(0)}),
+    ("CopyIsOld", {"pilot_copy_seconds": steady(-2 * 86400)}),
+    ("BrokerQueueIsLong", {"pilot_broker_messages": steady(1500)}),
+    ("BrokerDrops", {"pilot_broker_dropped_messages_total": growing(1)}),
+    ("DoorIsFull", {"pilot_door_too_many_total": growing(1)}),
+    ("DoorRefuses", {"pilot_door_refused_total": growing(1)}),
     ("BrokerAway", {"pilot_gateways_mqtt_broker_connected": steady(0)}),
     ("BrokerAway", {"pilot_applications_mqtt_broker_connected" + APPLICATION: steady(0)}),
     ("BrokerAway", {"pilot_readings_broker_connected" + APPLICATION: steady(0)}),
+    ("BrokerAway", {"pilot_adr_broker_connected" + APPLICATION: steady(0)}),
     ("ReadingsMissing", {"pilot_readings_broker_connected" + APPLICATION: NONE}),
     ("ReadingsDiskIsFull", {"pilot_readings_disk_free_bytes" + APPLICATION: steady(1e6)}),
     ("ReadingsAreLate", {"pilot_readings_late_seconds" + APPLICATION: steady(7200)}),
@@ -88,6 +104,7 @@ WRONG: tuple = (
     ("NameInUse", {"pilot_gateways_mqtt_closed_soon_total": growing(2)}),
     ("NameInUse", {"pilot_applications_mqtt_closed_soon_total": growing(60)}),
     ("NameInUse", {"pilot_readings_closed_soon_total": growing(60)}),
+    ("NameInUse", {"pilot_adr_closed_soon_total": growing(60)}),
     ("LnsdDrops", {"lnsd_dropped_total": growing(1)}),
     ("LnsdNameIsThereTwice", {"lnsd_taken_over_links_total": growing(2)}),
     ("LnsdLinkFaults", {"lnsd_faulted_links_total": growing(1)}),

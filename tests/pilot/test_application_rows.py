@@ -58,6 +58,18 @@ LINES: tuple = (
     (f"mac {DEVICE[:8]}/+ 5 0307", Wrong),
 )
 
+# MAC commands of a device, and the events of their line
+MAC_LINES: tuple = (
+    ("068014", ["status"]),
+    ("0307", ["mac"]),
+    ("0307068014", ["mac", "status"]),
+    ("0680140307", ["mac", "status"]),
+    ("0307068014068014", ["mac", "status", "status"]),
+    # an incomplete one, and one after an identifier that isn't known
+    ("03070680", ["mac"]),
+    ("0307FF068014", ["mac"]),
+)
+
 # of a DevStatusAns: battery and margin (TS001-1.0.4 §5.5)
 STATUSES = (
     ((0, 0x3F), (-1, True, False, 0)),
@@ -224,6 +236,16 @@ def test_tag_of_an_id(text: str, is_tag: bool) -> None:
 def test_event(line: str, more: str, due: Any) -> None:
     """The event of a line, also if a later server adds words."""
     assert outcome(translated, line + more) == due
+
+
+@table("commands, due", MAC_LINES)
+def test_events(commands: str, due: list[str]) -> None:
+    """A status has an event of its own, also if it comes beside other MAC commands."""
+    bodies: dict = {"mac": {"joinNonce": 5, "commands": commands}, "status": STATUS}
+    events = Translator(3, named).events(f"mac {DEVICE} 5 {commands}", TIME)
+    assert [event.kind for event in events] == due
+    for event in events:
+        assert event.body == {"time": TIME, "deviceInfo": INFO, **bodies[event.kind]}
 
 
 @table("answer, due", STATUSES)

@@ -116,6 +116,13 @@ def test_mac_commands(bridge: Bridge) -> None:
     assert (log["code"], log["context"]["queue_item_id"]) == ("MAC_QUEUE_FULL", "ref")
 
 
+def test_status_beside_an_answer(bridge: Bridge) -> None:
+    """A DevStatusAns in the same uplink as a LinkADRAns has an event of its own."""
+    bridge.link.tell(f"mac {FIRST} 5 0307068014")
+    assert bridge.events("mac")[0]["commands"] == "0307068014"
+    assert bridge.events("status")[0]["margin"] == 20
+
+
 def test_ids_over_a_kill(parts: Parts, network: Network) -> None:
     """A bridge that is killed knows the ids of commands afterwards, if it keeps them in a file."""
     bridge = Bridge(parts, network, "--ids", parts.file("ids.db"))

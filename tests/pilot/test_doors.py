@@ -1,13 +1,14 @@
 """The doors: strangers reach neither the server nor the broker, and nobody is another one."""
 
 import json
-import os
+import signal
 import socket
 import sqlite3
+import ssl
 import subprocess
-import sys
 import time
-from collections.abc import Iterator
+from collections.abc import Callable, Iterator
+from contextlib import ExitStack, suppress
 from pathlib import Path
 from typing import Any
 
@@ -17,11 +18,13 @@ from bozintar.forwarders import Air, Forwarder
 from bozintar.links import Application
 from bozintar.meters import Meter
 from bozintar.processes import HOST, await_that
+from console.access import secure
 
 from .doors import (
     LONG,
     OTHERS,
     SILENCE,
+    Authority,
     Certificates,
     Doors,
     Secured,
@@ -32,7 +35,7 @@ from .doors import (
     refused_by_broker,
 )
 from .field import APPLICATION, GATEWAYS
-from .parts import PILOT, Pilot, program_of_pilot
+from .parts import Pilot, program_of_pilot
 from .rows import table
 from .whole import Dashboard
 
@@ -41,30 +44,53 @@ PLACE = GATEWAYS[0].lower()
 PATIENCE, PACE = 10.0, 1.6
 REFUSED = wire.framed(b"\x13refused 51")
 # a client; the authority of its certificate, and the certificate; what it says; what comes, which
-# is None if it isn't let in; and how many lines the door logs, which isn't asked if stunnel refuses
+# is None if it isn't let in; and what the door logs then
+GREETS = "of 127.0.0.1 isn't let in: it greets as "
 AT_THE_DOOR = (
-    ("its own EUI", "own", PLACE, gateway(GATEWAYS[0]), b"", 0),
-    ("the other EUI of its place", "own", PLACE, gateway(GATEWAYS[1]), b"", 0),
-    ("its own application", "own", "application-3", application(3), REFUSED, 0),
-    ("no certificate", "own", None, gateway(GATEWAYS[0]), None, 0),
-    ("another authority's", "other", PLACE, gateway(GATEWAYS[0]), None, 0),
-    ("an expired one", "late", PLACE, gateway(GATEWAYS[0]), None, 0),
-    ("the server's own", "own", "server", gateway(GATEWAYS[0]), None, 0),
-    ("another one's EUI", "own", PLACE, gateway(OTHERS), None, 1),
-    ("an application's number", "own", PLACE, application(3), None, 1),
-    ("another application's", "own", "application-3", application(4), None, 1),
+    ("its own EUI", "own", PLACE, gateway(GATEWAYS[0]), b"", ""),
+    ("the other EUI of its place", "own", PLACE, gateway(GATEWAYS[1]), b"", ""),
+    ("its own application", "own", "application-3", application(3), REFUSED, ""),
+    ("no certificate", "own", None, gateway(GATEWAYS[0]), None, "DID_NOT_RETURN_A_CERTIFICATE"),
+    ("another authority's", "other", PLACE, gateway(GATEWAYS[0]), None, "local issuer certificate"),
+    ("an expired one", "late", PLACE, gateway(GATEWAYS[0]), None, "certificate has expired"),
+    ("the server's own", "own", "server", gateway(GATEWAYS[0]), None, "certificate purpose"),
+    ("another one's EUI", "own", PLACE, gateway(OTHERS), None, GREETS + OTHERS.lower()),
+    ("an application's number", "own", PLACE, application(3), None, GREETS + "application-3"),
+    (
+        "another application's",
+        "own",
+        "application-3",
+        application(4),
+        None,
+        GREETS + "application-4",
+    ),
     (
         "an application that its number begins with",
         "own",
         "application-13",
         application(1),
         None,
-        1,
+        GREETS + "application-1",
     ),
-    ("an application that its number ends with", "own", "application-13", application(3), None, 1),
-    ("a gateway's EUI", "own", "application-3", gateway(GATEWAYS[0]), None, 1),
-    ("no greeting", "own", PLACE, wire.framed(b"\x01" + bytes(40)), None, 1),
-    ("no frame", "own", PLACE, b"\xff" * 100, None, 1),
+    (
+        "an application that its number ends with",
+        "own",
+        "application-13",
+        application(3),
+        None,
+        "application-13 " + GREETS + "application-3",
+    ),
+    (
+        "a gateway's EUI",
+        "own",
+        "application-3",
+        gateway(GATEWAYS[0]),
+        None,
+        "application-3 " + GREETS + PLACE,
+    ),
+    ("no greeting", "own", PLACE, wire.framed(b"\x01" + bytes(8)), None, "message is no greeting"),
+    ("a copy", "own", PLACE, wire.framed(b"\x01" + bytes(40)), None, "too long for a greeting"),
+    ("no frame", "own", PLACE, b"\xff" * 100, None, "too long for a greeting"),
 )
 # a client; the authority of its certificate, and the certificate; whether the broker refuses it
 AT_THE_BROKER = (
@@ -75,52 +101,82 @@ AT_THE_BROKER = (
 )
 
 
-# a certificate's subject as stunnel says it, and the names in it
+# a certificate's subject for openssl, and the names in it
 SUBJECTS: tuple = (
-    ("CN=0016c001f153a14c", {"0016c001f153a14c"}),
-    ("CN=0016c001f153a14c, OU=0016c001f153a14d", {"0016c001f153a14c", "0016c001f153a14d"}),
+    ("/CN=0016c001f153a14c", {"0016c001f153a14c"}),
+    ("/CN=0016c001f153a14c/OU=0016c001f153a14d", {"0016c001f153a14c", "0016c001f153a14d"}),
     ("/O=Bozintar/CN=application-3", {"application-3"}),
-    ("CN = application-3+OU = application-4", {"application-3", "application-4"}),
-    ("CN=application-3_x", set()),
-    ("CN=application-3 x", set()),
-    ("CN=application-3.x", set()),
-    ("O=CN=application-3", set()),
-    ("SCN=application-3", set()),
+    ("/CN=application-3+OU=application-4", {"application-3", "application-4"}),
+    ("/CN=application-3_x", set()),
+    ("/CN=application-3 x", set()),
+    ("/CN=application-3.x", set()),
+    ("/CN=application-3\n", set()),
+    ("/O=CN=application-3/CN=x", {"x"}),
+    ("/O=Evil, CN=application-3, Ltd/CN=x", {"x"}),
+    ("/L=application-3/ST=application-3/CN=Application-3", set()),
 )
 
 
+class Own(Doors):
+    """Doors with certificates of a trial's own, of which some are revoked."""
+
+    def __init__(self, pilot: Pilot) -> None:
+        super().__init__(pilot, Certificates(pilot.file("own")))
+
+
+def certificate_for(authority: Authority, name: str, subject: str) -> None:
+    """Has openssl make a certificate with any subject, which `certificates` wouldn't make."""
+    certificate, key = authority.of(name)
+    by = ("-CA", f"{authority.folder}/ca.crt", "-CAkey", f"{authority.folder}/ca.key")
+    how = ("-newkey", "ec", "-pkeyopt", "ec_paramgen_curve:P-256", "-nodes", "-keyout", key)
+    words = ["openssl", "req", "-x509", *how, *by, "-days", "2", "-subj", subject]
+    subprocess.run([*words, "-out", certificate], check=True, capture_output=True)
+
+
 @table("subject, names", SUBJECTS)
-def test_names_of_a_certificate(subject: str, names: set[str]) -> None:
-    """The names in a certificate are whole ones."""
-    assert program_of_pilot("secure/door").names_of(subject) == names
+def test_names_of_a_certificate(
+    certificates: Certificates, folder: Path, subject: str, names: set[str]
+) -> None:
+    """The names in a certificate are whole values of its subject's own fields."""
+    authority = Authority(f"{folder}/authority")
+    for name in ("ca.crt", "ca.key"):
+        (folder / "authority" / name).write_bytes(Path(certificates.own.folder, name).read_bytes())
+    certificate_for(authority, "any", subject)
+    shown = ssl._ssl._test_decode_cert(authority.of("any")[0])  # type: ignore[attr-defined]
+    assert program_of_pilot("secure/door").names_of(shown) == names
+
+
+def test_name_within_another_field(doors: Doors) -> None:
+    """A certificate in whose organisation an application's name stands isn't that application."""
+    certificate_for(doors.own, "evil", "/O=Evil, CN=application-3, Ltd/CN=x")
+    doors.open()
+    assert doors.connect(doors.own.context("evil"), application(3), LONG) is None
+    assert f"x {GREETS}application-3" in doors.door.said()
 
 
 @pytest.mark.timed
-def test_slow_greeting(folder: Path) -> None:
-    """A client that says a byte of its greeting now and then is closed ten seconds after its first
-    one, and nothing of it is passed on."""
-    ours, theirs = socket.socketpair()
-    words = [
-        sys.executable,
-        str(PILOT / "secure/door"),
-        f"{HOST}:1",
-        "--log",
-        str(folder / "log"),
-    ]
-    environment = {**os.environ, "SSL_CLIENT_DN": f"CN={PLACE}"}
-    with ours, subprocess.Popen(words, stdin=theirs.fileno(), env=environment) as door:
-        theirs.close()
-        begun = time.monotonic()
-        for byte in gateway(GATEWAYS[0])[:-1]:
-            try:
-                ours.send(bytes([byte]))
-                door.wait(PACE)
-                break
-            except subprocess.TimeoutExpired:
-                pass
-        assert door.wait(PATIENCE) == 1
-    assert time.monotonic() - begun < PATIENCE + PACE
-    assert "it doesn't greet" in (folder / "log").read_text(encoding="utf-8")
+def test_slow_greeting(doors: Doors) -> None:
+    """A client that says a byte of its greeting now and then is closed ten seconds after it
+    connected, and nothing of it is passed on."""
+    doors.open()
+    begun, context = time.monotonic(), doors.own.context(PLACE)
+    with socket.create_connection((HOST, doors.port), 10) as bare:
+        with context.wrap_socket(bare, server_hostname="localhost") as client:
+            client.settimeout(PACE)
+            for byte in gateway(GATEWAYS[0])[:-1]:
+                try:
+                    client.sendall(bytes([byte]))
+                    if not client.recv(1):
+                        break
+                except TimeoutError:
+                    pass
+                except OSError:
+                    break
+    assert PATIENCE - 1 < time.monotonic() - begun < PATIENCE + PACE
+    assert f"{PLACE} {GATEWAYS[1].lower()} of {HOST} isn't let in: it doesn't greet" in (
+        doors.door.said()
+    )
+    assert doors.pilot.program.status()["gateways"] == "0"
 
 
 @pytest.fixture(scope="module")
@@ -132,7 +188,7 @@ def opened(program: str, certificates: Certificates) -> Iterator[Doors]:
         yield made
 
 
-@table("name, authority, certificate, said, due, lines", AT_THE_DOOR)
+@table("name, authority, certificate, said, due, logged", AT_THE_DOOR)
 def test_at_the_door(
     opened: Doors,
     name: str,
@@ -140,29 +196,129 @@ def test_at_the_door(
     certificate: str | None,
     said: bytes,
     due: Any,
-    lines: int,
+    logged: str,
 ) -> None:
     """Who is let in, and who isn't."""
-    before = len(opened.told())
     context = opened.own.context(certificate, getattr(opened, authority))
     seconds = SILENCE if due == b"" else LONG
     assert opened.connect(context, said, seconds) == due
-    assert len(opened.told()) == before + lines, "lines that the door logged"
+    await_that("the door logs it", lambda: opened.door.has_said(logged), LONG)
 
 
-@pytest.mark.parametrize(
-    "authority, certificate, why",
-    (
-        ("late", PLACE, "certificate has expired"),
-        ("own", None, "peer did not return a certificate"),
-    ),
-)
-def test_stunnel_says_why(opened: Doors, authority: str, certificate: str | None, why: str) -> None:
-    """The log of stunnel says why a client was refused."""
-    before = opened.stunnel.said().count(why)
-    context = opened.own.context(certificate, getattr(opened, authority))
-    assert opened.connect(context, gateway(GATEWAYS[0]), LONG) is None
-    assert opened.stunnel.said().count(why) > before
+def test_revoked_certificate(pilot: Pilot) -> None:
+    """A revoked certificate's link is closed once the list is read again, it isn't let in any more,
+    and the broker refuses it, too. Another link stays, and a new certificate for the name works."""
+    doors = Own(pilot)
+    doors.open()
+    gateways = lambda: pilot.program.status()["gateways"]
+    old, other = doors.own.context(PLACE), doors.own.context(OTHERS.lower())
+    with ExitStack() as links:
+        for context, eui in ((old, GATEWAYS[0]), (other, OTHERS)):
+            bare = links.enter_context(socket.create_connection((HOST, doors.port), 10))
+            link = context.wrap_socket(bare, server_hostname="localhost")
+            links.enter_context(link).sendall(gateway(eui))
+        await_that("both have links", lambda: gateways() == "2")
+        doors.own.make("revoke", PLACE)
+        doors.door.send_signal(signal.SIGHUP)
+        await_that("one link is closed", lambda: gateways() == "1")
+        text = f"{PLACE} {GATEWAYS[1].lower()} of {HOST}: its certificate is revoked"
+        assert text in doors.door.said()
+        assert doors.connect(old, gateway(GATEWAYS[0]), LONG) is None
+        await_that("that is logged", lambda: doors.door.has_said("certificate revoked"))
+        doors.own.make("gateway", *GATEWAYS[:2])
+        doors.connect(doors.own.context(PLACE), gateway(GATEWAYS[0]))
+        link.settimeout(SILENCE)
+        with pytest.raises(TimeoutError):
+            link.recv(1)  # the other one's link is open still
+    doors.open_broker()
+    assert refused_by_broker(doors.broker_port, old)
+    assert not refused_by_broker(doors.broker_port, doors.own.context(PLACE))
+
+
+@pytest.mark.parametrize("is_revoked", (False, True))
+def test_console_and_revoked(folder: Path, is_revoked: bool) -> None:
+    """The web console lets no client in whose certificate is revoked."""
+    authority = Authority(f"{folder}/own")
+    for words in (("server", "localhost"), ("operator", "a"), ("operator", "b")):
+        authority.make(*words)
+    client = authority.context("operator-a")
+    authority.make("revoke", "operator-a" if is_revoked else "operator-b")
+    files = (*authority.of("server"), f"{authority.folder}/ca.crt", f"{authority.folder}/ca.crl")
+    there, back = ssl.MemoryBIO(), ssl.MemoryBIO()
+    server = secure(*files).wrap_bio(there, back, server_side=True)
+    browser = client.wrap_bio(back, there, server_hostname="localhost")
+    assert refusal(server, browser) == ("certificate revoked" if is_revoked else "")
+
+
+def refusal(server: ssl.SSLObject, client: ssl.SSLObject) -> str:
+    """Why a server refuses a client's certificate; nothing if it doesn't."""
+    for _ in range(4):
+        with suppress(ssl.SSLWantReadError):
+            client.do_handshake()
+        try:
+            server.do_handshake()
+            return ""
+        except ssl.SSLWantReadError:
+            pass
+        except ssl.SSLCertVerificationError as why:
+            return why.verify_message
+    raise AssertionError("the handshake doesn't end")
+
+
+def test_list_that_cant_be_read(pilot: Pilot) -> None:
+    """A list that can't be read leaves all as it was, and a door doesn't start with it."""
+    doors = Own(pilot)
+    doors.open()
+    Path(doors.own.folder, "ca.crl").write_text("nothing\n", encoding="utf-8")
+    doors.door.send_signal(signal.SIGHUP)
+    said = "the files can't be used, and all stays as it was"
+    await_that("the door logs it", lambda: doors.door.has_said(said))
+    assert doors.connect(doors.own.context(PLACE), gateway(GATEWAYS[0])) == b""
+    assert doors.door.end() == 0
+    doors.door.start()
+    assert doors.door.ended() == 1
+    assert "the certificates can't be used" in doors.door.said()
+
+
+def test_no_server(doors: Doors) -> None:
+    """If the server is away, clients are closed, and let in again once it is back."""
+    doors.open()
+    doors.pilot.program.kill()
+    context = doors.own.context("application-3")
+    assert doors.connect(context, application(3), LONG) is None
+    assert "isn't let in: lnsd can't be reached" in doors.door.said()
+    doors.pilot.program.run_on(96, port=doors.pilot.address[1])
+    assert doors.connect(context, application(3), LONG) == REFUSED
+
+
+def test_end_of_a_client(doors: Doors) -> None:
+    """A client that ends what it sends gets what waits for it, as without TLS."""
+    doors.open()
+    context = doors.own.context("application-3")
+    came, left = ssl.MemoryBIO(), ssl.MemoryBIO()
+    tls = context.wrap_bio(came, left, server_hostname="localhost")
+    with socket.create_connection((HOST, doors.port), 10) as bare:
+        bare.settimeout(LONG)
+
+        def done(step: Callable[[], Any]) -> Any:
+            while True:
+                try:
+                    return step()
+                except ssl.SSLWantReadError:
+                    bare.sendall(left.read())
+                    piece = bare.recv(1000)
+                    came.write(piece) if piece else came.write_eof()
+
+        done(tls.do_handshake)
+        tls.write(application(3) + wire.request("hello") * 20)
+        with suppress(ssl.SSLWantReadError):
+            tls.unwrap()
+        bare.sendall(left.read())
+        answers = b""
+        with suppress(ssl.SSLZeroReturnError):
+            while piece := done(lambda: tls.read(1000)):
+                answers += piece
+    assert answers == REFUSED * 21
 
 
 def test_client_without_tls(opened: Doors) -> None:
@@ -173,8 +329,8 @@ def test_client_without_tls(opened: Doors) -> None:
         assert ended(plain)
 
 
-def test_gateways_through_two_stunnels(doors: Doors) -> None:
-    """A gateway's bridge reaches the server through two stunnels; one that isn't named doesn't."""
+def test_gateways_through_stunnel(doors: Doors) -> None:
+    """A gateway's bridge reaches the server by stunnel and the door; one that isn't named doesn't."""
     doors.open()
     pilot, port = doors.pilot, doors.open_client(doors.port)
     named = [word for eui in (*GATEWAYS[:2], OTHERS) for word in ("--gateway", eui)]

@@ -9,6 +9,7 @@ import socket
 import time
 from collections.abc import Iterator
 from contextlib import ExitStack, contextmanager
+from pathlib import Path
 
 import pytest
 from bozintar.mqtt import client
@@ -20,8 +21,11 @@ from .whole import Client, Dashboard
 
 pytestmark = [pytest.mark.timed]
 OF_A_UNIT, OF_A_TRIAL = 1024, 4096
-# silent connections: more than the 500 that stunnel has places for, and than a unit has descriptors
+# silent connections: more than the door has places for, and than a unit has descriptors
 AT_THE_DOOR, AT_THE_BROKER = 600, 1100
+# how long they may keep another client out at the door, in seconds, and what they may take of
+# memory, in KiB
+AT_ONCE, MOST_MEMORY = 3.0, 65_536
 # how long a client may be kept out by them, in seconds: the ten of a handshake, and a few more
 SOON = 20.0
 # how long an idle link has to last, in seconds
@@ -84,7 +88,8 @@ def test_silent_server(door: Doors) -> None:
 
 @pytest.mark.slow
 def test_silent_clients_at_the_door(door: Doors) -> None:
-    """Silent clients keep others out for ten seconds, and a link that is idle for longer stays."""
+    """Silent clients keep nobody out, and a link that is idle stays. They take no process each, and
+    little memory."""
     context, mine = door.own.context(GATEWAYS[0].lower()), door.own.context("application-3")
     gateways = lambda: door.pilot.program.status()["gateways"]
     with socket.create_connection((HOST, door.port), 10) as bare:
@@ -94,9 +99,43 @@ def test_silent_clients_at_the_door(door: Doors) -> None:
             begun = time.monotonic()
             with silent(door.port, AT_THE_DOOR):
                 let_in = lambda: door.connect(mine, application(3))
-                await_that("an application is let in beside silent ones", let_in, SOON, 0.2)
+                await_that("an application is let in beside silent ones", let_in, AT_ONCE, 0.2)
+                assert door.door.memory() < MOST_MEMORY
+                assert not Path(f"/proc/{door.door.pid}/task/{door.door.pid}/children").read_text(
+                    encoding="ascii"
+                )
             time.sleep(max(0.0, begun + IDLE - time.monotonic()))
             assert gateways() == "1", "an idle link stays"
+
+
+def test_silent_clients_elsewhere(doors: Doors) -> None:
+    """Silent clients of many addresses keep nobody out, either: they share all places."""
+    doors.open("--connections", "40", "--by-address", "10")
+    mine = doors.own.context("application-3")
+    with ExitStack() as those:
+        for number in range(80):
+            source = (f"127.0.1.{number}", 0)
+            connection = socket.create_connection((HOST, doors.port), 10, source)
+            those.enter_context(connection)
+        let_in = lambda: doors.connect(mine, application(3))
+        await_that("an application is let in beside silent ones", let_in, AT_ONCE, 0.2)
+
+
+def test_links_of_an_address(doors: Doors) -> None:
+    """An address gets no more links than its places, and those that it has stay."""
+    doors.open("--by-address", "2")
+    with ExitStack() as links:
+        for eui in GATEWAYS[:2]:
+            bare = links.enter_context(socket.create_connection((HOST, doors.port), 10))
+            context = doors.own.context(GATEWAYS[0].lower())
+            link = links.enter_context(context.wrap_socket(bare, server_hostname="localhost"))
+            link.sendall(gateway(eui))
+        links_of = lambda: doors.pilot.program.status()["gateways"]
+        await_that("both gateways have their links", lambda: links_of() == "2")
+        assert doors.connect(doors.own.context("application-3"), application(3), SOON) is None
+        assert links_of() == "2"
+    said = f"{HOST} isn't let in: others have all places"
+    await_that("the door logs it", lambda: doors.door.has_said(said))
 
 
 def is_let_in(port: int) -> bool:

@@ -7,10 +7,13 @@ from pathlib import Path
 from typing import Any
 
 from bozintar.forwarders import Forwarder
+from bozintar.mqtt import client
 from bozintar.processes import HOST, await_that
 
+from .doors import Doors
 from .field import GATEWAYS
-from .parts import PILOT, Pilot, run
+from .parts import PILOT, Parts, Pilot, run
+from .whole import Dashboard
 
 # a line of Prometheus' text format that has a number
 LABEL = r'[a-z]+="(?:[^"\\\n]|\\["\\n])*"'
@@ -82,7 +85,9 @@ def test_numbers_of_a_server(pilot: Pilot) -> None:
     assert (came["lnsd_up"], came["lnsd_places"]) == (1, 96)
     file = pilot.file("lnsd.prom")
     assert metrics(*words, "--out", file) == (0, "", "")
-    assert samples(Path(file).read_text(encoding="utf-8")) == came
+    later = samples(Path(file).read_text(encoding="utf-8"))
+    assert 0 < came.pop("lnsd_now_seconds") < later.pop("lnsd_now_seconds")
+    assert later == came
     pilot.program.stop()
     assert samples(metrics(*words)[1]) == {"lnsd_up": 0}
 
@@ -106,14 +111,17 @@ BRIDGES = {
     "gateways-mqtt": ("--broker", "connected to"),
     "applications-mqtt": ("--broker", "connected to"),
     "readings": ("--broker", "connected to"),
+    "adr": ("--broker", "connected to"),
 }
 
 
-def of_metrics(folder: Path) -> set[str]:
+def of_metrics(folder: Path, broker: str) -> set[str]:
     """The names of the numbers that pilot/metrics gives."""
     program = played(folder, "\n".join(f"echo {line} 1" for line in LINES))
     (folder / "none.crt").write_text("no certificate", encoding="utf-8")
-    text = metrics("store", "--lnsd", program, "--certificates", folder)[1]
+    (folder / "store-2026-11-29T22-50-24").write_bytes(b"")
+    words = ("--certificates", folder, "--broker", broker, "--copies", folder)
+    text = metrics("store", "--lnsd", program, *words)[1]
     return {name.split("{")[0] for name in samples(text)}
 
 
@@ -124,8 +132,8 @@ def of_bridge(pilot: Pilot, name: str) -> set[str]:
     whose: tuple = ("--network", pilot.network, "--gateway", GATEWAYS[0])
     if name == "applications-mqtt":
         whose = ("--network", pilot.network, "--application", "3")
-    if name == "readings":
-        whose = ("--db", pilot.file("readings.db"), "--application", "3")
+    if name in ("readings", "adr"):
+        whose = ("--db", pilot.file(f"{name}.db"), "--application", "3")
     file = pilot.file(f"{name}.prom")
     part = pilot.own(name, option, f"{HOST}:{port}", *whose, "--counts", file).start(ready)
     if name == "gateways-udp":
@@ -138,11 +146,45 @@ def of_bridge(pilot: Pilot, name: str) -> set[str]:
     return set(samples(Path(file).read_text(encoding="utf-8")))
 
 
-def test_alerts(pilot: Pilot, folder: Path) -> None:
+def of_door(doors: Doors) -> set[str]:
+    """The names of the numbers that the door writes."""
+    file = doors.pilot.file("door.prom")
+    doors.open("--counts", file)
+    await_that("the counts", lambda: os.path.exists(file), 20)
+    return set(samples(Path(file).read_text(encoding="utf-8")))
+
+
+def test_alerts(doors: Doors, folder: Path) -> None:
     """Each alert speaks of numbers that there are."""
+    pilot = doors.pilot
     pilot.broker().start("running")
-    found = of_metrics(folder).union(*(of_bridge(pilot, name) for name in BRIDGES))
+    found = of_metrics(folder, f"{HOST}:{pilot.broker_port}") | of_door(doors)
+    found = found.union(*(of_bridge(pilot, name) for name in BRIDGES))
     assert set(ALERTS) <= found, "names that alerts use, and that are numbers"
+
+
+def test_what_the_broker_keeps(parts: Parts, folder: Path) -> None:
+    """What waits in the broker for a client that is away, which is kept until it comes."""
+    parts.broker("sys_interval 1\n").start("running")
+    words = ("store", "--lnsd", "/bin/false", "--broker", f"{HOST}:{parts.broker_port}")
+    kept = lambda: samples(metrics(*words)[1])["pilot_broker_messages"]
+    before = await_that("the broker has numbers", kept)
+    with Dashboard(parts.broker_port) as dashboard:
+        away = client("away", is_kept=True)
+        away.on_connect = lambda *_: away.subscribe("a/topic", 1)
+        away.on_subscribe = lambda *_: away.disconnect()
+        away.connect(HOST, parts.broker_port)
+        away.loop_forever()
+        for number in range(50):
+            dashboard.say("a/topic", str(number).encode())
+        await_that("50 wait", lambda: kept() >= before + 50)
+    assert samples(metrics(*words)[1])["pilot_broker_bytes"] > 0
+
+
+def test_no_broker() -> None:
+    """If no broker is there, there are the other numbers."""
+    status, text, said = metrics("store", "--lnsd", "/bin/false", "--broker", f"{HOST}:1")
+    assert (status, samples(text), said) == (0, {"lnsd_up": 0}, "")
 
 
 def test_file_that_others_have_made(folder: Path) -> None:
@@ -187,13 +229,16 @@ def test_copied_counts(folder: Path) -> None:
 def test_ends_of_certificates(folder: Path) -> None:
     """When certificates end; one that can't be read has ended, and no folder is none."""
     assert run("secure/certificates", folder, "authority", "--days", "10")[0] == 0
-    (folder / "none.crt").write_text("no certificate", encoding="utf-8")
+    for name in ("none.crt", "none.crl"):
+        (folder / name).write_text("no certificate", encoding="utf-8")
     words = ["--certificates", folder, "--certificates", "/nowhere"]
     said = metrics("store", "--lnsd", "/bin/false", *words)[1].splitlines()
     came = dict(line.rsplit(" ", 1) for line in said if not line.startswith("#"))
-    name = 'pilot_certificate_end_seconds{file="%s/%s.crt"}'
-    due = {name % (folder, authority) for authority in ("ca", "none")}
+    name = 'pilot_certificate_end_seconds{file="%s/%s"}'
+    files = [f"{stem}.{kind}" for stem in ("ca", "none") for kind in ("crt", "crl")]
+    due = {name % (folder, file) for file in files}
     assert set(came) == {"lnsd_up"} | due
     ends = sorted(int(float(came[name])) for name in due)
-    assert ends[0] == 0, "of what is none"
-    assert abs(ends[1] - time.time() - 10 * 86400) < 600, "of the authority's"
+    assert ends[:2] == [0, 0], "of what is none"
+    for end, days in zip(ends[2:], (10, 3650)):
+        assert abs(end - time.time() - days * 86400) < 600, "of the authority's, and of its list"

@@ -28,6 +28,18 @@ GATEWAY = ("--gateway", GATEWAYS[0])
 UDP = ("--network", AT, "--udp", AT)
 MQTT = ("--network", AT, "--broker", AT)
 NOWHERE = "/nowhere/at/all"
+DOOR = (
+    "--listen",
+    AT,
+    "--network",
+    AT,
+    "--ca",
+    NOWHERE,
+    "--certificate",
+    NOWHERE,
+    "--key",
+    NOWHERE,
+)
 READINGS = ("--db", ":memory:", "--broker", AT, "--application", "3")
 # a program with its words, and the status that it ends with
 WORDS = (
@@ -96,8 +108,16 @@ WORDS = (
     ("secure/certificates", (NOWHERE, "gateway", "B1"), 2),
     ("secure/certificates", (NOWHERE, "application", "3", "4", "5"), 2),
     ("secure/certificates", (NOWHERE, "stranger"), 2),
-    ("secure/door", (AT,), 1),
-    ("secure/door", ("x",), 2),
+    ("secure/certificates", (NOWHERE, "revoke", "x"), 1),
+    ("secure/door", (), 2),
+    ("secure/door", (*DOOR, "--connections", "0"), 2),
+    ("secure/door", (*DOOR, "--listen", "x"), 2),
+    ("secure/door", DOOR, 1),
+    ("secure/door", (*DOOR, "--crl", "/dev/null"), 1),
+    ("copy", (), 2),
+    ("copy", (NOWHERE, "/"), 1),
+    ("copy", ("/dev/null", NOWHERE), 2),
+    ("copy", ("/dev/null", "/", "--keep", "0"), 2),
     ("install", ("x",), 2),
     ("play", (), 2),
     ("play", ("--udp", "h:1", "--gateway", "x"), 2),

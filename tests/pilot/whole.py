@@ -38,12 +38,13 @@ class Client:
 class Dashboard(Client):
     """A client of the broker that notes the events that come, by their kinds."""
 
-    def __init__(self, port: int, topic: str = EVENTS) -> None:
+    def __init__(self, port: int, *topics: str, name: str = "dashboard") -> None:
         self.events: list[tuple[str, str, Any]] = []
         self.unread = 0
-        self.client = client("dashboard")
+        self.client = client(name)
         self.client.on_message = self.note
-        self.client.on_connect = lambda client, *_: client.subscribe(topic, 1)
+        pairs = [(topic, 1) for topic in topics or (EVENTS,)]
+        self.client.on_connect = lambda client, *_: client.subscribe(pairs)
         self.has_topic = False
         self.client.on_subscribe = lambda *_: setattr(self, "has_topic", True)
         self.client.connect(HOST, port)

@@ -30,7 +30,6 @@ FAULTS = {
     "OPENED_BEFORE_HEARD": (),
     "OPENED_BEFORE_FRAMES": (),
     "BELL_BEFORE_RING": (),
-    "NAME_AFTER_GREETING": (),
     "RING_BEFORE_ASKING": (),
     "BELL_BEFORE_REFUSAL": (),
     "END_AT_TICK": ("ENDS",),
@@ -42,17 +41,17 @@ FAULTS = {
     "SHOWN_AFTER_LOOK": ("RUN", "ENDS"),
 }
 # The crates whose threads park and wake each other.
-CRATES = ("server_links", "link_workers", "link_server", "flusher", "session_core", "sights")
+CRATES = ("lnsd_links", "lnsd_threads", "lnsd_life", "lnsd_operator", "flusher", "session_core")
 # Functions with wake-ups that are no part of the model: those for operators, the pause after a
 # failed accept, and the end after a failure of the store.
 NOT_MODELLED = {
-    "link_workers/attending: run",
-    "link_workers/hosting: pause",
-    "server_links/control: close",
-    "server_links/signals: stop",
-    "server_links/watching: ring",
-    "server_links/watching: tell",
-    "server_links/watching: wait",
+    "lnsd_threads/attending: run",
+    "lnsd_threads/hosting: pause",
+    "lnsd_operator/control: close",
+    "lnsd_links/signals: stop",
+    "lnsd_operator/watching: ring",
+    "lnsd_operator/watching: tell",
+    "lnsd_operator/watching: wait",
 }
 
 

@@ -20,7 +20,7 @@ bit is_timed, is_due;
  * so their number makes no difference. */
 bit untaken, ring;
 
-/* The signals, those of server_links. A Parker of std is a token, which `unpark` sets, and `park`
+/* The signals, those of lnsd_links. A Parker of std is a token, which `unpark` sets, and `park`
  * waits for and takes. */
 byte open_inputs = 3;
 bit closer_idle, frames_decided, ticked, opened_bell, decided_bell;
@@ -65,7 +65,7 @@ inline begin() {
     od
 }
 
-/* server_links/signals: Signals::end_input */
+/* lnsd_links/signals: Signals::end_input */
 inline end_input() {
 #ifdef FAULT_BELL_BEFORE_END_OF_INPUT
     atomic { if :: open_inputs == 1 -> opened_bell = true :: else fi }
@@ -94,10 +94,10 @@ hear_copy:
     :: else
     fi;
 #endif
-    /* link_workers/reading: Worker::hear_copy
-     * link_workers/observing: LiveServer::hear
-     * session_core/shared: Shared::hear
-     * session_core/events: Core::hear
+    /* lnsd_threads/reading: Worker::hear_copy
+     * lnsd_threads/observing: LiveServer::handle
+     * session_core/shared: Shared::handle
+     * session_core/events: Core::handle
      * session_core/closing: Core::listen
      * A copy opens a window, or joins one or is refused. */
     atomic {
@@ -114,10 +114,10 @@ hear_copy:
     fi;
     atomic { frames_decided = true; NEXT }
 #endif
-    /* server_links/signals: Signals::tell_frames */
+    /* lnsd_links/signals: Signals::tell_frames */
     frames_decided = true;
 tell_opened:
-    /* server_links/signals: Signals::tell_opened */
+    /* lnsd_links/signals: Signals::tell_opened */
 #ifdef FAULT_OPENED_BEFORE_HEARD
     atomic { NEXT }
 #endif
@@ -126,7 +126,7 @@ tell_opened:
 read:
 #ifdef ENDS
 #ifdef RUN
-    /* link_workers/reading: Worker::read
+    /* lnsd_threads/reading: Worker::read
      * Waits until the operator ends the input. */
     gateways_shut;
 #endif
@@ -141,19 +141,19 @@ end_over:
 
 active proctype closer() {
     bit is_decided, is_last;
-    /* link_workers/closing: Closer::run */
+    /* lnsd_threads/closing: Closer::run */
 turn:
 #ifdef ENDS
-    /* server_links/signals: Signals::is_over */
+    /* lnsd_links/signals: Signals::is_over */
     if
     :: open_inputs == 0 -> goto last
     :: else
     fi;
 #endif
-    /* link_workers/closing: Closer::wait_for_window
-     * server_links/signals: Signals::set_idle
+    /* lnsd_threads/closing: Closer::wait_for_window
+     * lnsd_links/signals: Signals::set_idle
      * session_core/shared: Shared::next_due
-     * server_links/signals: Signals::has_frames */
+     * lnsd_links/signals: Signals::has_frames */
 #ifndef FAULT_IDLE_AFTER_LOOK
     closer_idle = true;
 #endif
@@ -174,9 +174,9 @@ turn:
 end_park:
     atomic { opened_bell -> opened_bell = false }
 clear:
-    /* server_links/signals: Signals::clear_idle */
+    /* lnsd_links/signals: Signals::clear_idle */
     atomic { closer_idle = false; if :: is_timed :: else -> goto tick fi }
-    /* server_links/moments: Monotonic::wait
+    /* lnsd_threads/moments: Monotonic::wait
      * If the moment has come, it may wait for the least time between two turns, or not at all. */
     if
     :: is_due -> goto tick
@@ -184,10 +184,10 @@ clear:
     fi;
     opened_bell = false;
 tick:
-    /* link_workers/closing: Closer::tick
-     * link_workers/observing: LiveServer::tick
-     * session_core/shared: Shared::tick
-     * session_core/events: Core::tick */
+    /* lnsd_threads/closing: Closer::tick
+     * lnsd_threads/observing: LiveServer::handle
+     * session_core/shared: Shared::handle
+     * session_core/events: Core::handle */
     atomic {
         is_timed = false;
         is_due = false;
@@ -199,7 +199,7 @@ tick:
     }
     frames_decided = true;
 tell:
-    /* server_links/signals: Signals::ring_for_frames */
+    /* lnsd_links/signals: Signals::ring_for_frames */
     atomic {
         if
         :: frames_decided -> frames_decided = false
@@ -212,11 +212,11 @@ last:
     ticked = true;
     decided_bell = true;
 #endif
-    /* link_workers/closing: Closer::close_all
+    /* lnsd_threads/closing: Closer::close_all
      * A tick after the last moment closes all windows. */
     atomic { due = due + later; later = 0; is_last = true; goto tick }
 tick_told:
-    /* server_links/signals: Signals::tell_ticked */
+    /* lnsd_links/signals: Signals::tell_ticked */
 #ifndef FAULT_TICKED_BEFORE_CLOSING
     ticked = true;
     decided_bell = true;
@@ -237,8 +237,8 @@ bit bell[2], over[2], taken[2], shut[2], shown[2] = { true, false };
 /* A greeting has locked the directory. */
 bit is_taking_over;
 #else
-/* The peer's name is set; the directory has it; the bell of the sender. */
-bit is_named, is_greeted, bell;
+/* The directory has the peer's name; its sender runs; the bell of the sender. */
+bit is_greeted, is_sending, bell;
 #endif
 
 #define CONTINUE if :: following -> following = false; goto follow :: else -> goto chain fi
@@ -263,9 +263,9 @@ follow:
     bell = true;
 #endif
     /* flusher/chaining: release
-     * link_server/flushing: let_out
-     * server_links/routing: route
-     * link_server/flushing: mark_links
+     * lnsd_life/flushing: let_out
+     * lnsd_links/routing: route
+     * lnsd_life/flushing: mark_links
      * What is put into the ring under the lock of the directory, and whose bell is to be rung. */
 #ifdef RUN
     atomic {
@@ -274,37 +274,37 @@ follow:
         marked = holder;
         if :: marked == NOBODY -> CONTINUE :: else fi
     }
-    /* link_server/flushing: ring_links */
+    /* lnsd_life/flushing: ring_links */
     atomic { bell[marked] = true; marked = 0; CONTINUE }
 #else
     atomic { if :: is_greeted -> ring = true :: else -> CONTINUE fi }
 #ifdef FAULT_BELL_BEFORE_RING
     atomic { CONTINUE }
 #endif
-    /* link_server/flushing: ring_links */
+    /* lnsd_life/flushing: ring_links */
     atomic { bell = true; CONTINUE }
 #endif
 is_done:
-    /* link_server/flushing: is_done */
+    /* lnsd_life/flushing: is_done */
     if
     :: is_ticked -> goto finish
     :: atomic { !is_ticked && ticked -> goto see }
     :: else
     fi;
-    /* server_links/signals: Signals::wait_for_decisions */
+    /* lnsd_links/signals: Signals::wait_for_decisions */
 end_park:
     atomic { decided_bell -> decided_bell = false }
 see:
-    /* server_links/signals: Signals::is_ticked */
+    /* lnsd_links/signals: Signals::has_reached */
     atomic { is_ticked = ticked }
 #ifdef FAULT_END_AT_TICK
     if :: is_ticked -> goto finish :: else fi;
 #endif
     goto chain;
 finish:
-    /* link_server/flushing: finish */
+    /* lnsd_life/flushing: finish */
     is_finished = true;
-    /* link_workers/server: LiveServer::ring_senders */
+    /* lnsd_threads/server: LiveServer::ring_senders */
 #ifdef RUN
     bell[0] = true;
     bell[1] = true;
@@ -317,7 +317,7 @@ end_over:
 }
 
 #ifndef RUN
-/* ---- An application of `serve`: a worker and a sender ---- */
+/* ---- An application of `serve`: a worker and its link's sender ---- */
 
 bit refusals;
 
@@ -326,26 +326,23 @@ bit refusals;
 active proctype application_worker() {
     bit is_decided, is_refused;
 #ifdef ENDS
-    /* It has greeted before. */
-    atomic { is_named = true; is_greeted = true }
+    /* It has greeted before, and the sender runs. */
+    atomic { is_greeted = true; is_sending = true }
 #else
-    /* link_workers/reading: Worker::greet
-     * server_links/link: Link::set_name */
-#ifdef FAULT_NAME_AFTER_GREETING
+    /* lnsd_threads/hosting: Worker::take_over
+     * lnsd_links/names: Directory::greet */
     is_greeted = true;
-    atomic { is_named = true; MAY_ASK }
-#else
-    is_named = true;
-    atomic { is_greeted = true; MAY_ASK }
-#endif
+    /* lnsd_threads/hosting: hold
+     * lnsd_threads/threads: start */
+    atomic { is_sending = true; MAY_ASK }
 #endif
 #ifdef FAULT_RING_BEFORE_ASKING
     decided_bell = true;
 #endif
-    /* link_workers/reading: Worker::ask
-     * link_workers/observing: LiveServer::ask
-     * session_core/shared: Shared::ask
-     * session_core/events: Core::decide */
+    /* lnsd_threads/reading: Worker::ask
+     * lnsd_threads/observing: LiveServer::handle
+     * session_core/shared: Shared::handle
+     * session_core/events: Core::handle */
     atomic {
         begin();
         if
@@ -357,12 +354,12 @@ active proctype application_worker() {
         if :: is_decided -> is_decided = false :: else -> goto refused fi
     }
 #ifndef FAULT_RING_BEFORE_ASKING
-    /* server_links/signals: Signals::ring_flusher */
+    /* lnsd_links/signals: Signals::ring_flusher */
     decided_bell = true;
 #endif
     atomic { if :: is_refused :: else -> goto read fi }
 refused:
-    /* link_workers/reading: Worker::tell_asker */
+    /* lnsd_threads/reading: Worker::tell_asker */
 #ifdef FAULT_BELL_BEFORE_REFUSAL
     bell = true;
     refusals = true;
@@ -373,34 +370,37 @@ refused:
     atomic { is_refused = false }
 read:
 #ifdef ENDS
+    /* lnsd_threads/hosting: Worker::end_link */
     end_input();
+    /* lnsd_threads/hosting: Worker::converse
+     * Its scope joins the sender. */
+end_join:
+    !is_sending;
     ended++;
 #endif
 end_over:
     false
 }
 
-/* server_links/writing: Sender::run */
+/* lnsd_links/writing: HostSender::run
+ * lnsd_links/writing: Sender::run */
 active proctype application_sender() {
     bit is_last;
+end_start:
+    is_sending;
 look:
 #if defined(ENDS) && !defined(FAULT_LAST_AFTER_LOOK)
-    /* server_links/writing: Sender::is_last
+    /* lnsd_links/writing: Sender::is_last
      * outbox/ends: Inlet::is_finished */
     atomic { is_last = is_finished }
 #endif
-    /* server_links/writing: Sender::send_some
-     * server_links/writing: Sender::gather_refusals
-     * server_links/writing: Sender::gather_effects
-     * server_links/link: Link::name
-     * server_links/gathering: gather */
+    /* lnsd_links/writing: Sender::send_some
+     * lnsd_links/writing: Sender::gather_refusals
+     * lnsd_links/writing: Sender::gather_effects
+     * lnsd_links/gathering: gather */
     atomic {
         if
-        :: refusals || (is_named && ring) ->
-            refusals = false;
-            if :: is_named -> ring = false :: else fi;
-            is_last = false;
-            goto look
+        :: refusals || ring -> refusals = false; ring = false; is_last = false; goto look
         :: else
         fi;
 #ifndef FAULT_LAST_AFTER_LOOK
@@ -413,7 +413,7 @@ look:
 end_park:
     atomic { bell -> bell = false; goto look }
 last:
-    ended++;
+    atomic { is_sending = false; ended++ }
 end_over:
     false
 }
@@ -444,10 +444,10 @@ proctype place_worker(bit place) {
         fi
     }
 read:
-    /* link_workers/reading: Worker::read */
+    /* lnsd_threads/reading: Worker::read */
 end_read:
     atomic { shut[place] || will_end }
-    /* link_workers/hosting: Worker::end_link */
+    /* lnsd_threads/hosting: Worker::end_link */
 #ifdef ENDS
     if
     :: ending ->
@@ -456,9 +456,9 @@ end_read:
     :: else
     fi;
 #endif
-    /* directory/names: Directory::leave */
+    /* lnsd_links/names: Directory::leave */
     atomic { !is_taking_over; if :: holder == place -> holder = NOBODY :: else fi }
-    /* server_links/link: Link::set_over */
+    /* lnsd_links/link: Link::set_over */
 #ifdef FAULT_OVER_AFTER_BELL
     bell[place] = true;
     over[place] = true;
@@ -467,16 +467,16 @@ end_read:
     bell[place] = true;
 #endif
 join:
-    /* link_workers/hosting: Host::converse
+    /* lnsd_threads/hosting: Worker::converse
      * Its scope joins the sender. */
 end_join:
     !is_sending[place];
 hide:
-    /* server_links/link: Link::hide */
+    /* lnsd_links/link: Link::hide */
     atomic { shown[place] = false; shut[place] = false; will_end = false }
 accept:
-    /* link_workers/hosting: Host::run
-     * link_workers/server: LiveServer::accept */
+    /* lnsd_threads/hosting: Worker::run
+     * lnsd_links/door: Entrance::next */
 end_accept:
     atomic {
         if
@@ -485,14 +485,14 @@ end_accept:
         fi
     }
 #ifdef ENDS
-    /* server_links/signals: Signals::is_ending */
+    /* lnsd_links/signals: Signals::is_ending */
     if
     :: ending -> goto no_more
     :: else
     fi;
 #endif
-    /* link_workers/hosting: Host::serve
-     * server_links/link: Link::show */
+    /* lnsd_threads/hosting: Worker::serve
+     * lnsd_links/link: Link::show */
 #ifndef FAULT_SHOWN_AFTER_LOOK
     shown[place] = true;
 #endif
@@ -505,24 +505,24 @@ end_accept:
 #ifdef FAULT_SHOWN_AFTER_LOOK
     shown[place] = true;
 #endif
-    /* link_workers/hosting: Host::welcome
-     * link_workers/hosting: Worker::take_over
-     * directory/names: Directory::take_over */
+    /* lnsd_threads/hosting: Worker::welcome
+     * lnsd_threads/hosting: Worker::take_over
+     * lnsd_links/names: Directory::take_over */
     atomic {
         !is_taking_over;
         older = holder;
         holder = place;
         if :: older == NOBODY -> goto start :: else -> is_taking_over = true fi
     }
-    /* server_links/link: Link::take */
+    /* lnsd_links/link: Link::take */
     taken[older] = true;
-    /* server_links/link: Link::close
-     * server_links/link: Link::shut */
+    /* lnsd_links/link: Link::close
+     * lnsd_links/link: Link::shut */
     atomic { if :: shown[older] -> shut[older] = true :: else fi }
     atomic { bell[older] = true; is_taking_over = false; older = NOBODY }
 start:
-    /* link_workers/hosting: hold
-     * link_workers/hosting: start_host_sender */
+    /* lnsd_threads/hosting: hold
+     * lnsd_threads/threads: start */
     atomic { is_sending[place] = true; goto read }
 no_more:
 #ifdef ENDS
@@ -536,7 +536,7 @@ end_over:
     false
 }
 
-/* server_links/writing: HostSender::run */
+/* lnsd_links/writing: HostSender::run */
 proctype place_sender(bit place) {
     bit is_last;
 #ifndef ENDS
@@ -545,8 +545,8 @@ proctype place_sender(bit place) {
 idle:
 end_idle:
     is_sending[place];
-    /* server_links/writing: HostSender::send_lines
-     * server_links/writing: HostSender::wait_for */
+    /* lnsd_links/writing: HostSender::send_lines
+     * lnsd_links/writing: HostSender::wait_for */
 wait_for:
     atomic { if :: has_lines -> has_lines = false; goto look :: else fi }
     atomic { if :: over[place] -> goto gone :: else fi }
@@ -554,13 +554,13 @@ wait_for:
 end_wait:
     atomic { bell[place] -> bell[place] = false; goto wait_for }
 look:
-    /* server_links/writing: HostSender::send
-     * server_links/writing: Sender::run
-     * server_links/writing: Sender::is_given_up */
+    /* lnsd_links/writing: HostSender::send
+     * lnsd_links/writing: Sender::run
+     * lnsd_links/writing: Sender::is_given_up */
     atomic { if :: taken[place] -> goto give_back :: else fi }
-    /* server_links/writing: Sender::is_last */
+    /* lnsd_links/writing: Sender::is_last */
     atomic { is_last = over[place] || is_finished }
-    /* server_links/writing: Sender::send_some */
+    /* lnsd_links/writing: Sender::send_some */
     atomic {
         if :: ring -> ring = false; is_last = false; goto look :: else fi;
         if :: is_last -> is_last = false; goto give_back :: else fi
@@ -568,7 +568,7 @@ look:
 end_park:
     atomic { bell[place] -> bell[place] = false; goto look }
 give_back:
-    /* server_links/writing: HostSender::send_lines */
+    /* lnsd_links/writing: HostSender::send_lines */
 #ifdef FAULT_LINES_AFTER_BELLS
     bell[0] = true;
     bell[1] = true;
@@ -583,13 +583,13 @@ gone:
 }
 
 #ifdef ENDS
-/* link_workers/server: LiveServer::end */
+/* lnsd_threads/server: LiveServer::end */
 active proctype operator() {
-    /* server_links/signals: Signals::set_ending */
+    /* lnsd_links/signals: Signals::reach */
     ending = true;
-    /* link_workers/server: LiveServer::shut_door */
+    /* lnsd_threads/server: LiveServer::shut_door */
     is_door_shut = true;
-    /* server_links/link: Link::close_input */
+    /* lnsd_links/link: Link::close_input */
     gateways_shut = true;
     atomic { if :: shown[0] -> shut[0] = true :: else fi }
     atomic { if :: shown[1] -> shut[1] = true :: else fi }

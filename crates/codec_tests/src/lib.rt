@@ -1,5 +1,6 @@
-//! Tests of the public calls of records, their changes, and the store's layout. This crate stands
-//! above theirs, so that each of those is proved once.
+//! Tests of the public calls of what is written as bytes: records, their changes and the store's
+//! layout; devices; the messages and lines of links. This crate stands above those that it tests, so
+//! that each of these is proved once.
 #![tactic(auto)]
 
 #[cfg(test)]
@@ -7,7 +8,15 @@ mod change_faults_tests;
 #[cfg(test)]
 mod change_tests;
 #[cfg(test)]
+mod devices_tests;
+#[cfg(test)]
+mod feeder_tests;
+#[cfg(test)]
 mod fixtures;
+#[cfg(test)]
+mod gateway_wire_tests;
+#[cfg(test)]
+mod link_fixtures;
 #[cfg(test)]
 mod record_codec_tests;
 #[cfg(test)]

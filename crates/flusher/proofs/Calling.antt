@@ -11,7 +11,7 @@ use Rattle.sessions.specs.declared.decision.Decision.{Decision}
 use Rattle.store.specs.declared.areas.TheConstants.{LAST_GENERATION}
 use Rattle.store.specs.declared.store.Store.{Store}
 use Rattle.store.specs.State.{IsOneCall, IsSettled, disk_of, store_state}
-use Rattle.flusher.specs.Calls.{AreStoreCalls, HasFailedBehind, HasFailedWithin, HaveSucceeded, IsUntouched, LastFailed, NoneFailed}
+use Rattle.flusher.specs.Calls.{AreStoreCalls, HasFailedAfter, HasFailedWithin, HaveSucceeded, IsUntouched, LastFailed, NoneFailed}
 
 pub none_untouched : {D : Type 0} {g : _} (state : D → State) (failures : D → ℕ) (outlook : D → Outlook) (old new : Store D g)
     → IsUntouched state old new → NoneFailed failures outlook old new
@@ -94,7 +94,7 @@ one_more made (FailsAfter left) b c (few, was) is = by (left - made) refl (subst
     by zero same h = let no : true ≡ false = h.0 in cc
     by (suc n) same h = (omega (arith, same), h.1 ∙ ap FailsAfter (let less : n ≡ left - (made + 1) = omega (arith, same) in less))
 
-pub then_fails : (made : ℕ) (a b c : Outlook) → HaveSucceeded made a b → IsForeseen b false c → HasFailedBehind made a c
+pub then_fails : (made : ℕ) (a b c : Outlook) → HaveSucceeded made a b → IsForeseen b false c → HasFailedAfter made a c
 then_fails made Unknown b c was is = subst (λ b. IsForeseen b false c) was is
 then_fails made AllSucceed b c was is = let no : false ≡ true = (subst (λ b. IsForeseen b false c) was is).0 in cc
 then_fails made (FailsAfter left) b c (few, was) is = by (left - made) refl (subst (λ b. IsForeseen b false c) was is)
@@ -111,11 +111,11 @@ more_succeed j k (FailsAfter left) b c (few, was) is =
     let less = h.0 in
     (omega (arith, few, less), h.1 ∙ ap FailsAfter (let same : left - j - k ≡ left - (j + k) = omega (arith, few, less) in same))
 
-more_fail : (j k : ℕ) (a b c : Outlook) → HaveSucceeded j a b → HasFailedBehind k b c → HasFailedBehind (j + k) a c
-more_fail j k Unknown b c was is = subst (λ b. HasFailedBehind k b c) was is
-more_fail j k AllSucceed b c was is = subst (λ b. HasFailedBehind k b c) was is
+more_fail : (j k : ℕ) (a b c : Outlook) → HaveSucceeded j a b → HasFailedAfter k b c → HasFailedAfter (j + k) a c
+more_fail j k Unknown b c was is = subst (λ b. HasFailedAfter k b c) was is
+more_fail j k AllSucceed b c was is = subst (λ b. HasFailedAfter k b c) was is
 more_fail j k (FailsAfter left) b c (few, was) is =
-    let h = subst (λ b. HasFailedBehind k b c) was is in
+    let h = subst (λ b. HasFailedAfter k b c) was is in
     let same = h.0 in
     (omega (arith, few, same), h.1)
 

@@ -45,16 +45,16 @@ HaveSucceeded made AllSucceed new = new ≡ AllSucceed
 HaveSucceeded made (FailsAfter left) new = (made ≤ left) × (new ≡ FailsAfter (left - made))
 
 -- this number succeeded, and the one after them failed
-abbrev pub HasFailedBehind : ℕ → Outlook → Outlook → Type 0
-HasFailedBehind made Unknown new = new ≡ Unknown
-HasFailedBehind made AllSucceed new = ⊥
-HasFailedBehind made (FailsAfter left) new = (left ≡ made) × (new ≡ AllSucceed)
+abbrev pub HasFailedAfter : ℕ → Outlook → Outlook → Type 0
+HasFailedAfter made Unknown new = new ≡ Unknown
+HasFailedAfter made AllSucceed new = ⊥
+HasFailedAfter made (FailsAfter left) new = (left ≡ made) × (new ≡ AllSucceed)
 
 -- one failed, after at least the first number and fewer than the second number of calls that
 -- succeeded
 abbrev pub HasFailedWithin : ℕ → ℕ → Outlook → Outlook → Type 0
 HasFailedWithin least most old new =
-    (made : ℕ) × ((least ≤ made) × ((made < most) × HasFailedBehind made old new))
+    (made : ℕ) × ((least ≤ made) × ((made < most) × HasFailedAfter made old new))
 
 -- how many calls make room for the largest batch: if the journal doesn't have it, those of a
 -- checkpoint, and two more if the other area's gate has to be closed first

@@ -32,14 +32,14 @@ answers_of counts result = map (λ count. Ok count) counts ++ last_answer result
 
 -- what is asked after a chain with this number of decisions: if it had none, whether all is done,
 -- which isn't so
-abbrev pub GoesOnBehind : {S : Type 0} → (S → Bool → S → Type 0) → S → ℕ → S → Type 0
-GoesOnBehind ask old zero new = ask old false new
-GoesOnBehind ask old (suc count) new = new ≡ old
+abbrev pub GoesOnAfter : {S : Type 0} → (S → Bool → S → Type 0) → S → ℕ → S → Type 0
+GoesOnAfter ask old zero new = ask old false new
+GoesOnAfter ask old (suc count) new = new ≡ old
 
 -- what is asked after all of them: the above after each one before the last; after the last one, if
 -- it wasn't refused, whether all is done, which is so
-abbrev pub AsksBehind : {S : Type 0} → (S → Bool → S → Type 0) → List ℕ
+abbrev pub AsksAfter : {S : Type 0} → (S → Bool → S → Type 0) → List ℕ
     → Result (Unit {0}) Refusal → S → S → Type 0
-AsksBehind {S} ask counts result old new =
-    (last : S) × (FoldsTo (GoesOnBehind ask) old counts last
+AsksAfter {S} ask counts result old new =
+    (last : S) × (FoldsTo (GoesOnAfter ask) old counts last
     × MatchResult result (λ _. ask last true new) (λ _. new ≡ last))

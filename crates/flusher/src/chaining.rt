@@ -1,13 +1,12 @@
 // Chains of commits: each batch's gate shares its sync with the next one's body.
-ghost use Rattle.std.specs.Global.{Global};
 ghost use Rattle.std.specs.Prelude.{◌≡◌, ◌<◌, ◌≤◌, ◌+◌, ◌∷◌, [], true, false, OnOk, Ok};
-ghost use Rattle.std.specs.Prelude.{MatchOption, MatchResult, Vec, length};
+ghost use Rattle.std.specs.Prelude.{MatchOption, MatchResult, length};
 ghost use Rattle.flusher.specs.Calls.{IsUntouched};
 ghost use Rattle.flusher.specs.Chain.{FollowsOpened, GivesAll, IsChain, IsChainOfSome};
 ghost use Rattle.flusher.specs.Chain.{IsFollowRefusal, NoneFollows};
 ghost use Rattle.flusher.specs.Cycle.{ChecksWhereFull, IsReady};
 ghost use Rattle.flusher.specs.Lived.{LeadOn};
-ghost use Rattle.flusher.specs.Released.{effects_of_all};
+ghost use Rattle.flusher.specs.Released.{effects_given, effects_of_all, given_to};
 ghost use Rattle.sessions.specs.Decision.{effects_in};
 ghost use Rattle.sessions.specs.declared.batch.TheConstants.Batch.{MOST};
 ghost use Rattle.store.specs.Commit.{IsUnderWay};
@@ -51,9 +50,7 @@ pub fn chain<D: Disk, F: Feed, C: FnMut(Vec<Released>)>(
     out: &mut C,
 ) -> Result<usize, Refusal>
     requires { C.IsAlwaysCallable out.old }
-    ensures chain { IsChain D.Disk F.gives
-        (λ (released : Vec Released Global). effects_of_all released.items)
-        (λ before released after. C.step before released tt after) most
+    ensures chain { IsChain D.Disk F.gives effects_given (given_to C.step) most
         store.old store.new feed.old feed.new out.old out.new result }
     ensures ready { OnOk result (IsReady (store_state D.state store.old)) }
 
@@ -67,8 +64,7 @@ pub fn chain<D: Disk, F: Feed, C: FnMut(Vec<Released>)>(
 
     // The lives that led the store here continue, and what left in addition was given to `out`, in
     // order.
-    ensures lives { D.honest → LeadOn (λ (released : Vec Released Global).
-        effects_of_all released.items) (λ before released after. C.step before released tt after)
+    ensures lives { D.honest → LeadOn effects_given (given_to C.step)
         (store_state D.state store.old) (store_state D.state store.new) out.old out.new }
 {
     sessions::laws::composing();
@@ -102,9 +98,7 @@ fn follow<D: Disk, F: Feed, C: FnMut(Vec<Released>)>(
     requires begun { IsSettled (store_state D.state store.old)
         → IsBegunOn (store_state D.state store.old) begun }
     ensures chain { (before : F) → GivesAll F.gives before ((begun_sequel begun).decisions ∷ [])
-        feed.old → IsChainOfSome D.Disk F.gives
-        (λ (released : Vec Released Global). effects_of_all released.items)
-        (λ before released after. C.step before released tt after) (more + 1)
+        feed.old → IsChainOfSome D.Disk F.gives effects_given (given_to C.step) (more + 1)
         store.old store.new before feed.new out.old out.new result }
     ensures generation { D.honest → IsSettled (store_state D.state store.old) → OnOk result
         ((store_state D.state store.new).log.generation

@@ -1,11 +1,10 @@
 // The cycles of a flusher.
-ghost use Rattle.std.specs.Global.{Global};
-ghost use Rattle.std.specs.Prelude.{◌≡◌, true, OnOk, Vec};
+ghost use Rattle.std.specs.Prelude.{◌≡◌, true, OnOk};
 ghost use Rattle.flusher.specs.Calls.{IsUntouched};
 ghost use Rattle.flusher.specs.Cycle.{ChecksWhereFull, IsReady};
 ghost use Rattle.flusher.specs.Lived.{LeadsOn};
 ghost use Rattle.flusher.specs.OneCycle.{IsCycle};
-ghost use Rattle.flusher.specs.Released.{effects_of_all};
+ghost use Rattle.flusher.specs.Released.{effects_given, given_to};
 ghost use Rattle.store.specs.State.{store_state, IsSettled};
 
 use crate::{ChainLength, Feed, Released, chain};
@@ -42,9 +41,7 @@ pub fn cycle<D: Disk, F: Feed, C: FnMut(Vec<Released>)>(
 ) -> Result<usize, Refusal>
     requires { C.IsAlwaysCallable out.old }
 
-    ensures cycle { IsCycle D.Disk F.gives
-        (λ (released : Vec Released Global). effects_of_all released.items)
-        (λ before released after. C.step before released tt after)
+    ensures cycle { IsCycle D.Disk F.gives effects_given (given_to C.step)
         store.old store.new feed.old feed.new out.old out.new result }
     ensures ready { OnOk result (IsReady (store_state D.state store.old)) }
 
@@ -58,8 +55,7 @@ pub fn cycle<D: Disk, F: Feed, C: FnMut(Vec<Released>)>(
 
     // The lives that led the store here continue, and what left in addition was given to `out` at
     // once.
-    ensures lives { D.honest → LeadsOn (λ (released : Vec Released Global).
-        effects_of_all released.items) (λ before released after. C.step before released tt after)
+    ensures lives { D.honest → LeadsOn effects_given (given_to C.step)
         (store_state D.state store.old) (store_state D.state store.new) out.old out.new }
 {
     sessions::laws::composing();

@@ -1,9 +1,8 @@
 // A flusher's cycles, one after another.
-ghost use Rattle.std.specs.Global.{Global};
-ghost use Rattle.std.specs.Prelude.{true, ◌≡◌, ℕ, List, OnOk, Vec};
+ghost use Rattle.std.specs.Prelude.{true, ◌≡◌, ℕ, List, OnOk};
 ghost use Rattle.flusher.specs.Lived.{LeadOn};
-ghost use Rattle.flusher.specs.Released.{effects_of_all};
-ghost use Rattle.flusher.specs.Serving.{AsksBehind, MakeChains, answers_of};
+ghost use Rattle.flusher.specs.Released.{effects_given, given_to};
+ghost use Rattle.flusher.specs.Serving.{AsksAfter, MakeChains, answers_of};
 ghost use Rattle.store.specs.State.{store_state};
 
 use crate::{ChainLength, Feed, Released, chain};
@@ -31,19 +30,16 @@ pub fn serve<R: Wait, D: Disk, F: Feed, C: FnMut(Vec<Released>), S: FnMut() -> b
 
     // The lives that led the store here continue, and what left in addition was given to `out`, in
     // order.
-    ensures lives { D.honest → LeadOn (λ (released : Vec Released Global).
-        effects_of_all released.items) (λ before released after. C.step before released tt after)
+    ensures lives { D.honest → LeadOn effects_given (given_to C.step)
         (store_state D.state store.old) (store_state D.state store.new) out.old out.new }
 
     // Its chains, in order, from what it was given to what it leaves. It ends with the refusal of
     // the last one, or after one without a batch, if `done` says so. `done` is called after each
     // chain without a batch, and at no other time.
-    ensures chains { (counts : List ℕ) × (MakeChains D.Disk F.gives
-        (λ (released : Vec Released Global). effects_of_all released.items)
-        (λ before released after. C.step before released tt after) 64
+    ensures chains { (counts : List ℕ)
+        × (MakeChains D.Disk F.gives effects_given (given_to C.step) 64
         store.old store.new feed.old feed.new out.old out.new (answers_of counts result)
-        × AsksBehind (λ before answer after. S.step before answer after) counts result
-        done.old done.new) }
+        × AsksAfter S.step counts result done.old done.new) }
     ensures done { OnOk result ((before : S) × S.step before true done.new) }
 {
     for _ in rt.forever() {

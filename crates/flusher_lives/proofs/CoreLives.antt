@@ -16,9 +16,9 @@ use Rattle.session_core.specs.State.{DecisionsState, new_decisions}
 use Rattle.store.specs.Image.{HoldsTable}
 use Rattle.store.specs.State.{StoreState, IsSettled}
 use Rattle.flusher.specs.Cycle.{HoldsWithOrWithout}
-use Rattle.flusher_lives.specs.Coming.{DecidesBehindComing}
+use Rattle.flusher_lives.specs.Coming.{DecidesAfterComing}
 use Rattle.flusher_lives.specs.Deciding.{CommitsDecided, CommitsInLife, EachHolds, HaveDecided, IsInStep, KeepsDecided, LeaveInAll, NumberedTable, StaysInStep}
-use Rattle.flusher_lives.specs.declared.core_feed.CoreEvent.{CoreEvent}
+use Rattle.session_core.specs.declared.event.Event.{Event}
 use Rattle.flusher_lives.specs.declared.core_feed.CoreFeed.{CoreFeed}
 use Rattle.flusher_lives.specs.declared.core_lives.CoreLife.{CoreLife}
 use Rattle.flusher_lives.proofs.Decided.{TakingLaws, folds_then, in_both}
@@ -109,7 +109,7 @@ module _ {C V : Type 0} (honest : Type 0) (effects : V → List Effect) (call : 
           committed = x.committed ++ y.committed;
           torn = y.torn;
           waiting = y.waiting;
-          meanwhile = in_both DecidesBehindComing f0 f1 f2 x.decided y.decided x.meanwhile y.meanwhile;
+          meanwhile = in_both DecidesAfterComing f0 f1 f2 x.decided y.decided x.meanwhile y.meanwhile;
           beginning =
               append_assoc x.committed y.committed (y.torn ++ y.waiting)
               ∙ (ap (λ l. x.committed ++ l) y.beginning ∙ more);
@@ -143,7 +143,7 @@ module _ {C V : Type 0} (honest : Type 0) (effects : V → List Effect) (call : 
   same_table x t n table seq = ap (λ t. record { table = t; seq = x.seq }) table ∙ ap (λ n. record { table = t; seq = n }) seq
 
   -- what a crash leaves of a store that was opened with this table
-  pub kept : (laws : TakingLaws) (coming : List (Vec (ℕ × CoreEvent) Global)) (s0 s1 : StoreState) (p q : C) → honest → IsSettled s0
+  pub kept : (laws : TakingLaws) (coming : List (Vec (ℕ × Event) Global)) (s0 s1 : StoreState) (p q : C) → honest → IsSettled s0
       → CommitsInLife honest effects call coming s0 s1 p q → (first : NumberedTable) → first.table ≡ s0.table → first.seq ≡ s0.seq
       → EachHolds s1.log.disk (λ last. KeepsDecided effects call coming first last p q)
   kept laws coming s0 s1 p q is settled (f, (g, (begun, (comes, x)))) first table seq image permitted =
@@ -243,7 +243,7 @@ module _ {C V : Type 0} (honest : Type 0) (effects : V → List Effect) (call : 
   module _ (laws : TakingLaws)
       (longer : (left whole more : List Effect) → IsSubsequence left whole → IsSubsequence left (whole ++ more))
       (extended : (left whole more : List Effect) → IsSubsequence left whole → IsSubsequence (left ++ more) (whole ++ more)) where
-    one_life_more : (coming : List (Vec (ℕ × CoreEvent) Global)) (old between new : NumberedTable) (p o q : C) → Part old between p o
+    one_life_more : (coming : List (Vec (ℕ × Event) Global)) (old between new : NumberedTable) (p o q : C) → Part old between p o
         → KeepsDecided effects call coming between new o q → Part old new p q
     one_life_more coming old between new p o q x k =
         record {

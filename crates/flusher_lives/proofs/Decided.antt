@@ -21,10 +21,10 @@ use Rattle.flusher.specs.Calls.{IsUntouched, LastFailed, NoneFailed}
 use Rattle.flusher_lives.specs.declared.core_feed.CoreFeed.{CoreFeed}
 use Rattle.flusher.specs.Chain.HasBroken.{FeedRefused, HadNoRoom, WasUncommitted, WasUnready}
 use Rattle.flusher.specs.Chain.{FeedGives, GivesAll, HasBroken, HasEnded, IsChain, LeaveInOrder, batched_decisions, store_behind}
-use Rattle.flusher_lives.specs.Coming.{DecidesBehindComing, DecidesMeanwhile, GivesBehindComing}
+use Rattle.flusher_lives.specs.Coming.{DecidesAfterComing, DecidesMeanwhile, GivesAfterComing}
 use Rattle.flusher.specs.Cycle.{HoldsWithOrWithout}
 use Rattle.flusher_lives.specs.Deciding.{CommitsDecided, IsInStep, StaysInStep}
-use Rattle.flusher_lives.proofs.Turned.{TakesBehind, gives_decided}
+use Rattle.flusher_lives.proofs.Turned.{TakesAfter, gives_decided}
 
 pub record TakingLaws : Type 0 where
   pub folding : (t : TableState) (ds : List Decision) → FitAll t ds → fold_of t (commands_of ds) ≡ with_decisions t ds
@@ -35,7 +35,7 @@ pub record TakingLaws : Type 0 where
 
 -- one take
 module _ (laws : TakingLaws) (s : StoreState) (core next : DecisionsState) (decided batch : List Decision) (from : IsInStep s core)
-    (takes : TakesBehind core decided MOST (Ok batch) next) where
+    (takes : TakesAfter core decided MOST (Ok batch) next) where
   abbrev pub all : List Decision
   all = core.log ++ decided
 
@@ -139,7 +139,7 @@ in_both step f g h x y (parts, (first, is)) (others, (second, are)) = (
 
 module _ (laws : TakingLaws) {F : Type 0} (gives : FeedGives F) (core : F → DecisionsState) (step : F → List Decision → F → Type 0)
     (tells : (f g : F) (answer : Result (List Decision) Refusal) → gives f MOST answer g
-    → (decided : List Decision) × (TakesBehind (core f) decided MOST answer (core g) × step f decided g)) where
+    → (decided : List Decision) × (TakesAfter (core f) decided MOST answer (core g) × step f decided g)) where
   -- what several batches that were given leave
   pub record Came (s : StoreState) (first last : F) (batches : List (List Decision)) : Type 0 where
     pub decided : List Decision
@@ -269,10 +269,10 @@ left_in_calls laws effects call t (b ∷ batches) p q (released, (next, (all, (m
 -- ---- chains of a core
 
 abbrev core_gives : CoreFeed → ℕ → Result (List Decision) Refusal → CoreFeed → Type 0
-core_gives = GivesBehindComing
+core_gives = GivesAfterComing
 
 core_tells : (f g : CoreFeed) (answer : Result (List Decision) Refusal) → core_gives f MOST answer g
-    → (decided : List Decision) × (TakesBehind f.core.decisions decided MOST answer g.core.decisions × DecidesBehindComing f decided g)
+    → (decided : List Decision) × (TakesAfter f.core.decisions decided MOST answer g.core.decisions × DecidesAfterComing f decided g)
 core_tells f g answer given = gives_decided f g answer given
 
 module _ (laws : TakingLaws) {D C V : Type 0} (disk : Ghosts D) (effects : V → List Effect) (call : C → V → C → Type 0) (most : ℕ)
@@ -280,8 +280,8 @@ module _ (laws : TakingLaws) {D C V : Type 0} (disk : Ghosts D) (effects : V →
     (is : IsChain disk core_gives effects call most old new f g p q result)
     (from : IsInStep (store_state disk.state old) f.core.decisions)
     (on : ContinueAll f.core.decisions.base (f.core.decisions.opening + f.core.decisions.taken) f.core.decisions.log) where
-  so : Came laws core_gives (λ f. f.core.decisions) DecidesBehindComing core_tells (store_state disk.state old) f is.feed is.batches
-  so = came laws core_gives (λ f. f.core.decisions) DecidesBehindComing core_tells (store_state disk.state old) f is.batches is.feed is.given from on
+  so : Came laws core_gives (λ f. f.core.decisions) DecidesAfterComing core_tells (store_state disk.state old) f is.feed is.batches
+  so = came laws core_gives (λ f. f.core.decisions) DecidesAfterComing core_tells (store_state disk.state old) f is.batches is.feed is.given from on
 
   abbrev EndsSo : Result ℕ Refusal → Type 0
   EndsSo r =
@@ -304,7 +304,7 @@ module _ (laws : TakingLaws) {D C V : Type 0} (disk : Ghosts D) (effects : V →
       on_err : (r : Result ℕ Refusal) → EndsSo r → IfErr r (λ e. e ≢ OutOfStep)
       on_err (Ok count) h = tt
       on_err (Err e) (few, broken) =
-          in_step laws core_gives (λ f. f.core.decisions) DecidesBehindComing core_tells most (IsUntouched disk.state old new) (LastFailed disk.failures disk.outlook old new)
+          in_step laws core_gives (λ f. f.core.decisions) DecidesAfterComing core_tells most (IsUntouched disk.state old new) (LastFailed disk.failures disk.outlook old new)
           (store_state disk.state old) f is.batches is.torn is.feed g e so broken
 
   given_away : (calls : List V) × ((flat_map effects calls ≡ effects_of (store_state disk.state old).table (commands_of (batched_decisions is.batches))) × FoldsTo call p calls q)
@@ -344,16 +344,16 @@ module _ (laws : TakingLaws) {D C V : Type 0} (disk : Ghosts D) (effects : V →
   untorn_asked answer none given =
       let told = core_tells is.feed g answer given in
       commits (so.decided ++ told.0) [] (is.feed.core.decisions.log ++ told.0)
-      (in_both DecidesBehindComing f is.feed g so.decided told.0 so.takes (in_one DecidesBehindComing is.feed g told.0 told.1.1)) none
+      (in_both DecidesAfterComing f is.feed g so.decided told.0 so.takes (in_one DecidesAfterComing is.feed g told.0 told.1.1)) none
       (sym (append_assoc (batched_decisions is.batches) is.feed.core.decisions.log told.0)
       ∙ (ap (λ l. l ++ told.0) so.parts ∙ append_assoc f.core.decisions.log so.decided told.0))
       (so.later told.0 told.1.0.lawful.continues)
 
   module _ (next : CoreFeed) (given : GivesAll core_gives is.feed (is.torn ∷ []) next) where
     -- the torn one was given, too
-    came_with_torn : Came laws core_gives (λ f. f.core.decisions) DecidesBehindComing core_tells (store_state disk.state old) f next (is.batches ++ is.torn ∷ [])
+    came_with_torn : Came laws core_gives (λ f. f.core.decisions) DecidesAfterComing core_tells (store_state disk.state old) f next (is.batches ++ is.torn ∷ [])
     came_with_torn =
-        came laws core_gives (λ f. f.core.decisions) DecidesBehindComing core_tells (store_state disk.state old) f (is.batches ++ is.torn ∷ []) next
+        came laws core_gives (λ f. f.core.decisions) DecidesAfterComing core_tells (store_state disk.state old) f (is.batches ++ is.torn ∷ []) next
         (folds_then (λ (feed : CoreFeed) (batch : List Decision) (next : CoreFeed). (batch ≢ []) × core_gives feed MOST (Ok batch) next) f is.feed next is.batches (is.torn ∷ []) is.given given) from on
 
     lists_with_torn : batched_decisions is.batches ++ (is.torn ++ next.core.decisions.log) ≡ f.core.decisions.log ++ came_with_torn.decided
@@ -370,7 +370,7 @@ module _ (laws : TakingLaws) {D C V : Type 0} (disk : Ghosts D) (effects : V →
     with_torn_asked answer more =
         let told = core_tells next g answer more in
         commits (came_with_torn.decided ++ told.0) is.torn (next.core.decisions.log ++ told.0)
-        (in_both DecidesBehindComing f next g came_with_torn.decided told.0 came_with_torn.takes (in_one DecidesBehindComing next g told.0 told.1.1)) refl
+        (in_both DecidesAfterComing f next g came_with_torn.decided told.0 came_with_torn.takes (in_one DecidesAfterComing next g told.0 told.1.1)) refl
         (ap (λ l. batched_decisions is.batches ++ l) (sym (append_assoc is.torn next.core.decisions.log told.0))
         ∙ (sym (append_assoc (batched_decisions is.batches) (is.torn ++ next.core.decisions.log) told.0)
         ∙ (ap (λ l. l ++ told.0) lists_with_torn ∙ append_assoc f.core.decisions.log came_with_torn.decided told.0)))
@@ -400,7 +400,7 @@ module _ (laws : TakingLaws) {D C V : Type 0} (disk : Ghosts D) (effects : V →
       (
         sym (ap (λ (f : CoreFeed). f.core.decisions.log) same),
         (
-          ended laws core_gives (λ f. f.core.decisions) DecidesBehindComing core_tells most (store_state disk.state old) (store_state disk.state new) f is.batches is.feed g so
+          ended laws core_gives (λ f. f.core.decisions) DecidesAfterComing core_tells most (store_state disk.state old) (store_state disk.state new) f is.batches is.feed g so
               is.commits.table is.commits.seq (inl (same, why)),
           settles calls,
         ),
@@ -416,7 +416,7 @@ module _ (laws : TakingLaws) {D C V : Type 0} (disk : Ghosts D) (effects : V →
           (
             sym (parts laws behind is.feed.core.decisions g.core.decisions told.0 [] so.goes_on told.1.0),
             (
-              ended laws core_gives (λ f. f.core.decisions) DecidesBehindComing core_tells most (store_state disk.state old) (store_state disk.state new) f is.batches is.feed g so
+              ended laws core_gives (λ f. f.core.decisions) DecidesAfterComing core_tells most (store_state disk.state old) (store_state disk.state new) f is.batches is.feed g so
                   is.commits.table is.commits.seq (inr (few, given)),
               settles calls,
             ),

@@ -16,12 +16,13 @@ use Rattle.dedup.specs.Windows.{windows_with}
 use Rattle.session_core.specs.State.{DecisionsState, IsLawful}
 use Rattle.session_core.specs.Core.{CoreState, with_outcome}
 use Rattle.session_core.specs.Deciding.{after_taking, Keeps, Makes, step_if_room, verdict_of}
-use Rattle.session_core.specs.Events.{Asks, Closes, Handles, Hears, IsTurn, Starves, Ticks, has_due, core_at_moment}
+use Rattle.session_core.specs.Calls.{work_of}
+use Rattle.session_core.specs.Events.{Closes, Handles, Hears, IsTurn, Starves, has_due, core_at_moment}
+use Rattle.session_core.specs.declared.event.Event.{Event}
+use Rattle.session_core.specs.declared.event.Event.TheVariants.{Hear, Tick, Ask}
 use Rattle.session_core.specs.declared.turn.Turn.{Turn}
 use Rattle.sessions.specs.declared.batch.TheConstants.Batch.{MOST}
-use Rattle.flusher_lives.specs.Coming.{Comes, DecidesBehindComing, GivesBehindComing, coming_first}
-use Rattle.flusher_lives.specs.declared.core_feed.CoreEvent.{CoreEvent}
-use Rattle.flusher_lives.specs.declared.core_feed.CoreEvent.TheVariants.{Copy, Provision, Queue, QueueMac, Tick}
+use Rattle.flusher_lives.specs.Coming.{Comes, DecidesAfterComing, GivesAfterComing, coming_first}
 use Rattle.flusher_lives.specs.declared.core_feed.CoreFeed.{CoreFeed}
 
 -- a core's decisions, once these more are made
@@ -35,7 +36,7 @@ HasDecided old new = (decided : List Decision) × (new ≡ with_decided old deci
 
 -- what a take of at most this number returns and leaves, after these that were decided since the
 -- last one
-pub record TakesBehind (old : DecisionsState) (decided : List Decision) (most : ℕ)
+pub record TakesAfter (old : DecisionsState) (decided : List Decision) (most : ℕ)
     (answer : Result (List Decision) Refusal) (new : DecisionsState) : Type 0 where
   pub lawful : IsLawful (with_decided old decided)
   pub took : MatchResult answer
@@ -114,34 +115,24 @@ module _ (Own : CoreState → Option Refusal → CoreState → Type 0)
       (nothing last.decisions h.between.decisions (ap (λ (s : CoreState). s.decisions) h.closed.new_is))
       (ends (has_due h.between) h.between turn.refused new h.own))
 
-pub asked : (command : Command) (old : CoreState) (moment : ℕ) (turn : Turn) (new : CoreState) → IsTurn old moment (Asks command) turn new
-    → HasDecided old.decisions new.decisions
-asked command = turned (Asks command) (λ s refused new h. handled s command (verdict_of refused) new h)
-
-pub ticked : (old : CoreState) (moment : ℕ) (turn : Turn) (new : CoreState) → IsTurn old moment Ticks turn new → HasDecided old.decisions new.decisions
-ticked = turned Ticks (λ s refused new h. nothing s.decisions new.decisions (ap (λ (s : CoreState). s.decisions) h.1))
-
-heard_own : (copy : FrameCopy) (s : CoreState) (refused : Option Refusal) (new : CoreState) → Hears copy s refused new → HasDecided s.decisions new.decisions
-heard_own copy s (Some e) new h = nothing s.decisions new.decisions (ap (λ (s : CoreState). s.decisions) h.same)
-heard_own copy s None new h = taken (windows_with s.windows s.clock copy) (h.receivable h.known)
+heard : (copy : FrameCopy) (s : CoreState) (refused : Option Refusal) (new : CoreState) → Hears copy s refused new → HasDecided s.decisions new.decisions
+heard copy s (Some e) new h = nothing s.decisions new.decisions (ap (λ (s : CoreState). s.decisions) h.same)
+heard copy s None new h = taken (windows_with s.windows s.clock copy) (h.receivable h.known)
   where
     taken : (want : Result _ Refusal) → Answers want (λ ws (_ : Unit {0}). new ≡ record s { windows = ws }) (Ok tt) → HasDecided s.decisions new.decisions
     taken (Ok ws) is = nothing s.decisions new.decisions (ap (λ (s : CoreState). s.decisions) is)
     taken (Err e) is = absurd (search (rules, is))
 
-pub heard : (copy : FrameCopy) (old : CoreState) (moment : ℕ) (turn : Turn) (new : CoreState) → IsTurn old moment (Hears copy) turn new
-    → HasDecided old.decisions new.decisions
-heard copy = turned (Hears copy) (heard_own copy)
+worked : (event : Event) (s : CoreState) (refused : Option Refusal) (new : CoreState) → work_of event s refused new → HasDecided s.decisions new.decisions
+worked (Hear copy) s refused new h = heard copy s refused new h
+worked Tick s refused new h = nothing s.decisions new.decisions (ap (λ (s : CoreState). s.decisions) h.1)
+worked (Ask command) s refused new h = handled s command (verdict_of refused) new h
 
 -- any events that come to a core
-comes : (old : CoreState) (at : ℕ × CoreEvent) (new : CoreState) → Comes old at new → HasDecided old.decisions new.decisions
-comes old (moment, Copy copy) new (turn, is) = heard copy old moment turn new is
-comes old (moment, Provision value) new (turn, is) = asked (commands.Provision value) old moment turn new is
-comes old (moment, Queue value) new (turn, is) = asked (commands.Queue value) old moment turn new is
-comes old (moment, QueueMac value) new (turn, is) = asked (commands.QueueMac value) old moment turn new is
-comes old (moment, Tick) new (turn, is) = ticked old moment turn new is
+comes : (old : CoreState) (at : ℕ × Event) (new : CoreState) → Comes old at new → HasDecided old.decisions new.decisions
+comes old (moment, event) new (turn, is) = turned (work_of event) (worked event) old moment turn new is
 
-all_come : (coming : List (ℕ × CoreEvent)) (old new : CoreState) → FoldsTo Comes old coming new → HasDecided old.decisions new.decisions
+all_come : (coming : List (ℕ × Event)) (old new : CoreState) → FoldsTo Comes old coming new → HasDecided old.decisions new.decisions
 all_come [] old new same = nothing old.decisions new.decisions (ap (λ (s : CoreState). s.decisions) (sym same))
 all_come (at ∷ coming) old new (next, first, rest) =
     and_then old.decisions next.decisions new.decisions (comes old at next first) (all_come coming next new rest)
@@ -157,8 +148,8 @@ taken between new most (Ok batch) (is, new_is) = (is, ap (λ (s : CoreState). s.
 taken between new most (Err e) (is, same) = (is, ap (λ (s : CoreState). s.decisions) same)
 
 -- what a core gives after what came to it, and what it decided of that
-pub gives_decided : (old new : CoreFeed) (answer : Result (List Decision) Refusal) → GivesBehindComing old MOST answer new
-    → (decided : List Decision) × (TakesBehind old.core.decisions decided MOST answer new.core.decisions × DecidesBehindComing old decided new)
+pub gives_decided : (old new : CoreFeed) (answer : Result (List Decision) Refusal) → GivesAfterComing old MOST answer new
+    → (decided : List Decision) × (TakesAfter old.core.decisions decided MOST answer new.core.decisions × DecidesAfterComing old decided new)
 gives_decided old new answer is =
     let made = all_come (coming_first old.coming.items) old.core is.between is.came in (
       made.0,
@@ -167,7 +158,7 @@ gives_decided old new answer is =
             IsLawful s
             → MatchResult answer (λ batch. (batch ≡ take MOST s.log) × (new.core.decisions ≡ after_taking s MOST))
             (λ e. (e ≡ OutOfMemory) × (new.core.decisions ≡ s))
-            → TakesBehind old.core.decisions made.0 MOST answer new.core.decisions) (sym made.1)
+            → TakesAfter old.core.decisions made.0 MOST answer new.core.decisions) (sym made.1)
             (λ lawful took. record { lawful = lawful; took = took }) is.lawful.decisions (taken is.between new.core MOST answer is.took),
         record { answer = answer; asked = is; logged = ap (λ (s : DecisionsState). s.log) made.1 },
       ),

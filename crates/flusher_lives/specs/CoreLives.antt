@@ -9,21 +9,21 @@ use Rattle.lw_types.specs.declared.refusal.Refusal.TheVariants.{OutOfMemory}
 use Rattle.session_core.specs.Core.{new_core}
 use Rattle.store.specs.State.{disk_of}
 use Rattle.store.specs.declared.store.Store.{Store}
-use Rattle.flusher_lives.specs.Coming.{GivesBehindComing}
+use Rattle.flusher_lives.specs.Coming.{GivesAfterComing}
 use Rattle.flusher_lives.specs.OverLives.{IsReopened, MakeUpTo}
-use Rattle.flusher_lives.specs.declared.core_feed.CoreEvent.{CoreEvent}
+use Rattle.session_core.specs.declared.event.Event.{Event}
 use Rattle.flusher_lives.specs.declared.core_feed.CoreFeed.{CoreFeed}
 use Rattle.flusher_lives.specs.declared.core_lives.CoreLife.{CoreLife}
 
 -- A core began with what the store had, and this number of chains was made of what came to it, or
 -- fewer, after which one was refused; or there was no memory for a core.
 abbrev pub DecidesUpTo : {D C V : Type 0} (disk : Ghosts D) → (V → List Effect)
-    → (C → V → C → Type 0) → List (Vec (ℕ × CoreEvent) Global) → ℕ → ℕ
+    → (C → V → C → Type 0) → List (Vec (ℕ × Event) Global) → ℕ → ℕ
     → Store D disk → Store D disk → C → C → Result (Unit {0}) Refusal → Type 0
 DecidesUpTo {D} {C} {V} disk effects call coming most chains old new old_out new_out result =
     ((first : CoreFeed) × ((last : CoreFeed) × ((first.core ≡ new_core old.table old.seq)
     × ((first.coming.items ≡ coming)
-    × MakeUpTo disk GivesBehindComing effects call most chains old new first last old_out new_out
+    × MakeUpTo disk GivesAfterComing effects call most chains old new first last old_out new_out
     result))))
     ⊎ ((result ≡ Err OutOfMemory) × ((new ≡ old) × (new_out ≡ old_out)))
 

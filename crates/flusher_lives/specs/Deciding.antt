@@ -16,7 +16,7 @@ use Rattle.store.specs.Image.{HoldsTable}
 use Rattle.store.specs.State.{StoreState, IsSettled}
 use Rattle.flusher.specs.Cycle.{HoldsWithOrWithout}
 use Rattle.flusher_lives.specs.Coming.{DecidesMeanwhile}
-use Rattle.flusher_lives.specs.declared.core_feed.CoreEvent.{CoreEvent}
+use Rattle.session_core.specs.declared.event.Event.{Event}
 use Rattle.flusher_lives.specs.declared.core_feed.CoreFeed.{CoreFeed}
 use Rattle.flusher_lives.specs.declared.core_lives.CoreLife.{CoreLife}
 
@@ -57,7 +57,7 @@ StaysInStep honest effects call old new old_feed new_feed old_out new_out =
 
 -- the same of a core that began with what the store had, and to which this came
 abbrev pub CommitsInLife : {C V : Type 0} → Type 0 → (V → List Effect) → (C → V → C → Type 0)
-    → List (Vec (ℕ × CoreEvent) Global) → StoreState → StoreState → C → C → Type 0
+    → List (Vec (ℕ × Event) Global) → StoreState → StoreState → C → C → Type 0
 CommitsInLife honest effects call coming old new old_out new_out =
     (first : CoreFeed) × ((last : CoreFeed) × ((first.core ≡ new_core old.table old.seq)
     × ((first.coming.items ≡ coming)
@@ -77,7 +77,7 @@ EachHolds disk P =
     × (HoldsTable found.table found.seq image × P found))
 
 -- A core that began with this table and number, and to which this came, made these decisions.
-pub record DecidesInLife (begun : NumberedTable) (coming : List (Vec (ℕ × CoreEvent) Global))
+pub record DecidesInLife (begun : NumberedTable) (coming : List (Vec (ℕ × Event) Global))
     (decided : List Decision) : Type 0 where
   pub first : CoreFeed
   pub last : CoreFeed
@@ -89,7 +89,7 @@ pub record DecidesInLife (begun : NumberedTable) (coming : List (Vec (ℕ × Cor
 -- it began with and the first of the core's decisions. Among these are all that were committed,
 -- whose effects, complete and in order, were given away in calls.
 pub record KeepsDecided {C V : Type 0} (effects : V → List Effect) (call : C → V → C → Type 0)
-    (coming : List (Vec (ℕ × CoreEvent) Global)) (old new : NumberedTable) (old_out new_out : C)
+    (coming : List (Vec (ℕ × Event) Global)) (old new : NumberedTable) (old_out new_out : C)
     : Type 0 where
   pub decided : List Decision
   pub committed : List Decision

@@ -1,40 +1,25 @@
 // A core as a feed: what is decided between its takes.
-ghost use Rattle.std.specs.Global.{Global};
-ghost use Rattle.std.specs.Prelude.{◌≢◌, IfErr, OnOk, Vec};
+ghost use Rattle.std.specs.Prelude.{◌≢◌, IfErr, OnOk};
 ghost use Rattle.std.specs.List.{FoldsTo};
 ghost use Rattle.flusher.specs.Chain.{IsChain};
 ghost use Rattle.flusher.specs.Lived.{LeadOn};
-ghost use Rattle.flusher.specs.Released.{effects_of_all};
-ghost use Rattle.flusher_lives.specs.Coming.{Comes, GivesBehindComing};
+ghost use Rattle.flusher.specs.Released.{effects_given, given_to};
+ghost use Rattle.flusher_lives.specs.Coming.{Comes, GivesAfterComing};
 ghost use Rattle.flusher_lives.specs.Deciding.{CommitsDecided, IsInStep, StaysInStep};
 ghost use Rattle.lw_types.specs.declared.refusal.Refusal.TheVariants.{OutOfStep};
 ghost use Rattle.store.specs.State.{store_state};
 
-use devices::{MacQueueing, Provisioning, Queueing};
 use disk::Disk;
 use flusher::{ChainLength, Feed, Most, Released, chain};
-use lw_types::{FrameCopy, Refusal};
-use session_core::{Core, Moment};
+use lw_types::Refusal;
+use session_core::{Core, Event, Moment};
 use sessions::Batch;
 use std::alloc::Global;
 use std::collections::VecDeque;
 use store::Store;
 
-/// What comes to a core.
-#[derive(Drop)]
-pub enum CoreEvent {
-    /// A gateway heard a frame.
-    Copy(FrameCopy),
-    /// An application's request.
-    Provision(Provisioning),
-    Queue(Queueing),
-    QueueMac(MacQueueing),
-    /// Time passes.
-    Tick,
-}
-
 /// What comes between two takes, each item with its moment.
-pub type Coming = Vec<(Moment, CoreEvent)>;
+pub type Coming = Vec<(Moment, Event)>;
 
 /// A core from which a flusher takes, with what comes to it before each of the takes. This stands
 /// for anything that the threads of a server do that share the core: the flusher sees the core only
@@ -58,9 +43,9 @@ impl CoreFeed {
 }
 
 impl Feed for CoreFeed {
-    ghost use Rattle.flusher_lives.specs.Coming.{GivesBehindComing};
+    ghost use Rattle.flusher_lives.specs.Coming.{GivesAfterComing};
 
-    ghost gives = { GivesBehindComing };
+    ghost gives = { GivesAfterComing };
 
     fn next(&mut self, most: Most) -> Result<Batch, Refusal> {
         if let Some(coming) = self.coming.pop_front() {
@@ -74,20 +59,8 @@ fn play_all(core: &mut Core, coming: Coming)
     ensures { FoldsTo Comes core.old coming.items core.new }
 {
     for (moment, event) in coming {
-        take_event(core, moment, event);
+        core.handle(moment, event);
     }
-}
-
-fn take_event(core: &mut Core, moment: Moment, event: CoreEvent)
-    ensures { Comes core.old (moment, event) core.new }
-{
-    let _ = match event {
-        CoreEvent::Copy(copy) => core.hear(moment, copy),
-        CoreEvent::Provision(value) => core.provision(moment, value),
-        CoreEvent::Queue(value) => core.queue(moment, value),
-        CoreEvent::QueueMac(value) => core.queue_mac(moment, value),
-        CoreEvent::Tick => core.tick(moment),
-    };
 }
 
 /// A [`chain`] of what a core decides, on the store from which its decisions continue. What the
@@ -106,26 +79,19 @@ pub fn chain_of_core<D: Disk, C: FnMut(Vec<Released>)>(
     requires out { C.IsAlwaysCallable out.old }
     requires goes_on { IsInStep (store_state D.state store.old) feed.old.core.decisions }
     ensures callable { C.IsAlwaysCallable out.new }
-    ensures chain { IsChain D.Disk GivesBehindComing
-        (λ (released : Vec Released Global). effects_of_all released.items)
-        (λ before released after. C.step before released tt after) most
+    ensures chain { IsChain D.Disk GivesAfterComing effects_given (given_to C.step) most
         store.old store.new feed.old feed.new out.old out.new result }
-    ensures decided { CommitsDecided D.honest
-        (λ (released : Vec Released Global). effects_of_all released.items)
-        (λ before released after. C.step before released tt after)
+    ensures decided { CommitsDecided D.honest effects_given (given_to C.step)
         (store_state D.state store.old) (store_state D.state store.new)
         feed.old feed.new out.old out.new }
-    ensures whole { OnOk result (StaysInStep D.honest
-        (λ (released : Vec Released Global). effects_of_all released.items)
-        (λ before released after. C.step before released tt after)
+    ensures whole { OnOk result (StaysInStep D.honest effects_given (given_to C.step)
         (store_state D.state store.old) (store_state D.state store.new)
         feed.old feed.new out.old out.new) }
     ensures in_step { IfErr result (λ e. e ≢ OutOfStep) }
 
     // The lives that led the store here continue, and what left in addition was given to `out`, in
     // order.
-    ensures lives { D.honest → LeadOn (λ (released : Vec Released Global).
-        effects_of_all released.items) (λ before released after. C.step before released tt after)
+    ensures lives { D.honest → LeadOn effects_given (given_to C.step)
         (store_state D.state store.old) (store_state D.state store.new) out.old out.new }
 {
     sessions::laws::folding();

@@ -1,8 +1,7 @@
 // A flusher over several lives of its store, each with a core of its own, on a simulated disk.
-ghost use Rattle.std.specs.Global.{Global};
-ghost use Rattle.std.specs.Prelude.{List, Vec, ℕ};
+ghost use Rattle.std.specs.Prelude.{List, ℕ};
 ghost use Rattle.disk.specs.State.{EveryImage, IsPermitted};
-ghost use Rattle.flusher.specs.Released.{effects_of_all};
+ghost use Rattle.flusher.specs.Released.{effects_given, given_to};
 ghost use Rattle.flusher_lives.specs.CoreLives.{AreCoreLives, DecidesUpTo, IsCoreLife};
 ghost use Rattle.flusher_lives.specs.Deciding.{CommitsInLife, EachHolds, HaveDecided};
 ghost use Rattle.flusher_lives.specs.Deciding.{KeepsDecided, LeaveInAll, NumberedTable};
@@ -60,21 +59,15 @@ pub fn decide_over_lives<D: Sim, C: FnMut(Vec<Released>)>(
     ensures callable { C.IsAlwaysCallable out.new }
 
     // Each life, in order, from what was handed in to what is left.
-    ensures course { AreCoreLives D.Disk
-        (λ (released : Vec Released Global). effects_of_all released.items)
-        (λ before released after. C.step before released tt after)
+    ensures course { AreCoreLives D.Disk effects_given (given_to C.step)
         lives.items disk result out.old out.new }
     ensures decided { (first : NumberedTable)
         → EveryImage (D.state disk) (HoldsTable first.table first.seq)
-        → EachHolds (D.state result) (λ last. HaveDecided
-        (λ (released : Vec Released Global). effects_of_all released.items)
-        (λ before released after. C.step before released tt after) lives.items
-        first last out.old out.new) }
+        → EachHolds (D.state result) (λ last. HaveDecided effects_given (given_to C.step)
+        lives.items first last out.old out.new) }
     ensures left { (first : NumberedTable)
         → EveryImage (D.state disk) (HoldsTable first.table first.seq)
-        → EachHolds (D.state result) (λ last. LeaveInAll
-        (λ (released : Vec Released Global). effects_of_all released.items)
-        (λ before released after. C.step before released tt after)
+        → EachHolds (D.state result) (λ last. LeaveInAll effects_given (given_to C.step)
         first last out.old out.new) }
 {
     sessions::laws::folding();
@@ -93,16 +86,13 @@ pub fn decide_over_lives<D: Sim, C: FnMut(Vec<Released>)>(
 fn live<D: Sim, C: FnMut(Vec<Released>)>(alloc: Global, disk: D, life: CoreLife, out: &mut C) -> D
     requires { C.IsAlwaysCallable out.old }
     ensures callable { C.IsAlwaysCallable out.new }
-    ensures course { IsCoreLife D.Disk
-        (λ (released : Vec Released Global). effects_of_all released.items)
-        (λ before released after. C.step before released tt after)
+    ensures course { IsCoreLife D.Disk effects_given (given_to C.step)
         life disk result out.old out.new }
     ensures kept { EveryImage (D.state result)
         (λ image. (left : List ℕ) × (IsPermitted (D.state disk) left
         × ((found : NumberedTable) → HoldsTable found.table found.seq left
-        → (last : NumberedTable) × (HoldsTable last.table last.seq image × KeepsDecided
-        (λ (released : Vec Released Global). effects_of_all released.items)
-        (λ before released after. C.step before released tt after) life.coming.items
+        → (last : NumberedTable) × (HoldsTable last.table last.seq image
+        × KeepsDecided effects_given (given_to C.step) life.coming.items
         found last out.old out.new)))) }
 {
     let CoreLife {
@@ -136,13 +126,9 @@ fn decide<D: Disk, C: FnMut(Vec<Released>)>(
 ) -> Result<(), Refusal>
     requires out { C.IsAlwaysCallable out.old }
     ensures callable { C.IsAlwaysCallable out.new }
-    ensures course { DecidesUpTo D.Disk
-        (λ (released : Vec Released Global). effects_of_all released.items)
-        (λ before released after. C.step before released tt after)
+    ensures course { DecidesUpTo D.Disk effects_given (given_to C.step)
         coming.items most chains store.old store.new out.old out.new result }
-    ensures decided { CommitsInLife D.honest
-        (λ (released : Vec Released Global). effects_of_all released.items)
-        (λ before released after. C.step before released tt after) coming.items
+    ensures decided { CommitsInLife D.honest effects_given (given_to C.step) coming.items
         (store_state D.state store.old) (store_state D.state store.new) out.old out.new }
 {
     sessions::laws::folding();

@@ -8,6 +8,6 @@ mod core_feed;
 mod core_lives;
 mod over_lives;
 
-pub use core_feed::{Coming, CoreEvent, CoreFeed, chain_of_core};
+pub use core_feed::{Coming, CoreFeed, chain_of_core};
 pub use core_lives::{CoreLife, decide_over_lives};
 pub use over_lives::{CallNumber, FlusherLife, flush_new_store, flush_over_lives};

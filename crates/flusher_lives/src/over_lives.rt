@@ -1,11 +1,10 @@
 // A flusher over several lives of its store, on a simulated disk.
-ghost use Rattle.std.specs.Global.{Global};
 ghost use Rattle.std.specs.Prelude.{◌≡◌, ◌≢◌, ◌+◌, ℕ, List, [], All, IfErr, IfOk, MatchOption, Ok};
-ghost use Rattle.std.specs.Prelude.{OnErr, Vec, length};
+ghost use Rattle.std.specs.Prelude.{OnErr, length};
 ghost use Rattle.devices.specs.declared.mark.Mark.{Mark};
 ghost use Rattle.disk.specs.State.{EveryImage, NothingOpen};
 ghost use Rattle.flusher.specs.Lived.{AreOnDisk, GoOnFrom, LeadOn};
-ghost use Rattle.flusher.specs.Released.{effects_of_all};
+ghost use Rattle.flusher.specs.Released.{effects_given, given_to};
 ghost use Rattle.flusher_lives.specs.OverLives.{AreFlusherLives, IsFlusherLife, IsLeftBy};
 ghost use Rattle.flusher_lives.specs.OverLives.{IsReopened, LeaveOnce, MakeUpTo};
 ghost use Rattle.lw_types.specs.declared.refusal.Refusal.{Refusal};
@@ -68,22 +67,18 @@ pub fn flush_over_lives<D: Sim, F: Feed, C: FnMut(Vec<Released>)>(
     ensures callable { C.IsAlwaysCallable out.new }
 
     // Each life, in order, from what was handed in to what is left.
-    ensures course { AreFlusherLives D.Disk F.gives
-        (λ (released : Vec Released Global). effects_of_all released.items)
-        (λ before released after. C.step before released tt after)
+    ensures course { AreFlusherLives D.Disk F.gives effects_given (given_to C.step)
         lives.now disk result feed.old feed.new out.old out.new }
 
     // The lives that are on the disk continue, and what left in addition was given to `out`, in
     // order.
-    ensures lives { GoOnFrom (λ (released : Vec Released Global). effects_of_all released.items)
-        (λ before released after. C.step before released tt after)
+    ensures lives { GoOnFrom effects_given (given_to C.step)
         (λ lives t number. AreOnDisk lives t number (D.state disk))
         (λ lives t number. AreOnDisk lives t number (D.state result)) out.old out.new }
     ensures once { (t : TableState) (number : ℕ) (marks : List Mark)
         → EveryImage (D.state disk) (HoldsTable t number)
         → All (λ m. Covers t m) marks → AreDistinct marks
-        → LeaveOnce (λ (released : Vec Released Global). effects_of_all released.items)
-        (λ before released after. C.step before released tt after) t number marks
+        → LeaveOnce effects_given (given_to C.step) t number marks
         (D.state result) out.old out.new }
 {
     laws::lives_go_on();
@@ -113,13 +108,9 @@ pub fn flush_new_store<D: Sim, F: Feed, C: FnMut(Vec<Released>)>(
     ensures callable { C.IsAlwaysCallable out.new }
     ensures course { IfOk result (λ last. (store : _)
         × (IsFormatAnswer D.Disk disk net_id slots (λ (refusal : Refusal). refusal) (Ok store)
-        × AreFlusherLives D.Disk F.gives
-        (λ (released : Vec Released Global). effects_of_all released.items)
-        (λ before released after. C.step before released tt after)
+        × AreFlusherLives D.Disk F.gives effects_given (given_to C.step)
         lives.now (disk_of store) last feed.old feed.new out.old out.new)) }
-    ensures once { IfOk result (λ last. LeaveOnce
-        (λ (released : Vec Released Global). effects_of_all released.items)
-        (λ before released after. C.step before released tt after)
+    ensures once { IfOk result (λ last. LeaveOnce effects_given (given_to C.step)
         (empty_table net_id slots) 0 [] (D.state last) out.old out.new) }
     ensures refused { IfErr result
         (λ e. IsFormatRefusal slots (length (D.state disk).content) e.1) }
@@ -147,12 +138,9 @@ fn live<D: Sim, F: Feed, C: FnMut(Vec<Released>)>(
 ) -> D
     requires { C.IsAlwaysCallable out.old }
     ensures callable { C.IsAlwaysCallable out.new }
-    ensures course { IsFlusherLife D.Disk F.gives
-        (λ (released : Vec Released Global). effects_of_all released.items)
-        (λ before released after. C.step before released tt after)
+    ensures course { IsFlusherLife D.Disk F.gives effects_given (given_to C.step)
         life.now disk result feed.old feed.new out.old out.new }
-    ensures lives { GoOnFrom (λ (released : Vec Released Global). effects_of_all released.items)
-        (λ before released after. C.step before released tt after)
+    ensures lives { GoOnFrom effects_given (given_to C.step)
         (λ lives t number. AreOnDisk lives t number (D.state disk))
         (λ lives t number. AreOnDisk lives t number (D.state result)) out.old out.new }
 {
@@ -207,12 +195,9 @@ fn flush_life<D: Sim, F: Feed, C: FnMut(Vec<Released>)>(
 ) -> Result<(), Refusal>
     requires { C.IsAlwaysCallable out.old }
     ensures callable { C.IsAlwaysCallable out.new }
-    ensures course { MakeUpTo D.Disk F.gives
-        (λ (released : Vec Released Global). effects_of_all released.items)
-        (λ before released after. C.step before released tt after) most chains
+    ensures course { MakeUpTo D.Disk F.gives effects_given (given_to C.step) most chains
         store.old store.new feed.old feed.new out.old out.new result }
-    ensures lives { LeadOn (λ (released : Vec Released Global). effects_of_all released.items)
-        (λ before released after. C.step before released tt after)
+    ensures lives { LeadOn effects_given (given_to C.step)
         (store_state D.state store.old) (store_state D.state store.new) out.old out.new }
 {
     for _ in 0..chains {

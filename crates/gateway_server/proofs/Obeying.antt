@@ -14,7 +14,7 @@ use Rattle.command_words.specs.declared.mode.Usage.TheVariants as usage
 use Rattle.gateway_server.specs.declared.fault.Fault.{Fault}
 use Rattle.gateway_server.specs.declared.fault.Fault.TheVariants.{Listen}
 use Rattle.gateway_server.specs.Told.{AsksToRun, CannotListen, FellShort, HasStatus, HasUsageStatus}
-use Rattle.gateway_server.specs.Told.{IsAskedFor, IsDone, SaysSomething, TellsEarly, WasObeyed}
+use Rattle.gateway_server.specs.Told.{IsAskedFor, IsDone, PrintsSomething, PrintsEarly, WasObeyed}
 use Rattle.gateway_server.specs.Told.{outcome_with}
 
 -- nothing is printed
@@ -25,7 +25,7 @@ appends_nothing (Some xs) = sym (append-nil xs)
 -- its text was printed
 pub of_text : {O E S : Type 0} (ends : Mode → Result (List ℕ) Fault → Type 0) (m asked : Mode)
     (contents : O → Option (List ℕ)) (old new : O) (text_of : S → List ℕ) (text : Result S Fault)
-    (result : Result (Result (Unit {0}) E) Fault) → m ≡ asked → SaysSomething asked
+    (result : Result (Result (Unit {0}) E) Fault) → m ≡ asked → PrintsSomething asked
     → ends asked (outcome_with text_of text)
     → IfOk text (λ t. MatchResult result
     (λ told. OnOk told (Appends (contents old) (contents new) (text_of t))) (λ _. ⊥))
@@ -37,7 +37,7 @@ of_text ends m asked contents old new text_of (Ok t) (Ok (Err x)) is says ended 
   text_of t,
   (
     subst (λ a. ends a (Ok (text_of t))) (sym is) ended,
-    subst SaysSomething (sym is) says,
+    subst PrintsSomething (sym is) says,
   ),
 )
 of_text ends m asked contents old new text_of (Ok t) (Err x) is says ended ok err = absurd ok
@@ -61,13 +61,13 @@ of_nothing ends m asked contents out (Err fault) result is e ok err =
 -- its text was printed elsewhere
 pub of_life : {O E S : Type 0} (ends : Mode → Result (List ℕ) Fault → Type 0) (m asked : Mode)
     (contents : O → Option (List ℕ)) (out : O) (ended : Result S Fault)
-    (result : Result (Result (Unit {0}) E) Fault) → m ≡ asked → SaysSomething asked
+    (result : Result (Result (Unit {0}) E) Fault) → m ≡ asked → PrintsSomething asked
     → ends m (outcome_with (λ _. []) ended) → (IsOk ended → IsOk result)
     → IfErr ended (λ fault. result ≡ Err fault) → WasObeyed ends m contents out out result
 of_life ends m asked contents out (Ok x) (Ok (Ok u)) is says e ok err =
     ([], (e, inr (appends_nothing (contents out))))
 of_life ends m asked contents out (Ok x) (Ok (Err y)) is says e ok err =
-    ([], (e, subst SaysSomething (sym is) says))
+    ([], (e, subst PrintsSomething (sym is) says))
 of_life ends m asked contents out (Ok x) (Err f) is says e ok err = absurd (false≢true (ok refl))
 of_life ends m asked contents out (Err fault) result is says e ok err =
     subst (λ r. WasObeyed ends m contents out out r) (sym err)
@@ -76,15 +76,15 @@ of_life ends m asked contents out (Err fault) result is says e ok err =
 -- it was printed before
 pub of_early : {O E S : Type 0} (ends : Mode → Result (List ℕ) Fault → Type 0) (m asked : Mode)
     (contents : O → Option (List ℕ)) (old new : O) (ended : Result S Fault)
-    (result : Result (Result (Unit {0}) E) Fault) → m ≡ asked → TellsEarly asked
-    → SaysSomething asked → ends m (outcome_with (λ _. []) ended)
+    (result : Result (Result (Unit {0}) E) Fault) → m ≡ asked → PrintsEarly asked
+    → PrintsSomething asked → ends m (outcome_with (λ _. []) ended)
     → (IsOk ended → IsOk result)
     → IfErr ended (λ fault. (result ≡ Err fault) × (AsksToRun asked ⊎ (new ≡ old)))
     → WasObeyed ends m contents old new result
 of_early ends m asked contents old new (Ok x) (Ok (Ok u)) is early says e ok err =
-    ([], (e, inl (subst TellsEarly (sym is) early)))
+    ([], (e, inl (subst PrintsEarly (sym is) early)))
 of_early ends m asked contents old new (Ok x) (Ok (Err y)) is early says e ok err =
-    ([], (e, subst SaysSomething (sym is) says))
+    ([], (e, subst PrintsSomething (sym is) says))
 of_early ends m asked contents old new (Ok x) (Err f) is early says e ok err =
     absurd (false≢true (ok refl))
 of_early ends m asked contents old new (Err fault) result is early says e ok err =

@@ -1,7 +1,7 @@
 -- The lines that are printed at the end of a life.
 use Rattle.std.specs.Prelude.{ℕ, List, ◌++◌, codes}
-use Rattle.link_server.specs.declared.report.LifeReport.{LifeReport}
-use Rattle.server_links.specs.Counted.{count_line}
+use Rattle.lnsd_life.specs.declared.report.LifeReport.{LifeReport}
+use Rattle.lnsd_operator.specs.Counted.{count_line}
 
 -- how a life of links that all connected has ended
 abbrev pub report_text : LifeReport → List ℕ

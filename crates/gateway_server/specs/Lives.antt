@@ -1,6 +1,6 @@
 -- Why a command failed, given why a life or a store's file failed.
-use Rattle.server_links.specs.declared.fault.ServeFault.{ServeFault}
-use Rattle.server_links.specs.declared.fault.ServeFault.TheVariants as served
+use Rattle.lnsd_operator.specs.declared.fault.ServeFault.{ServeFault}
+use Rattle.lnsd_operator.specs.declared.fault.ServeFault.TheVariants as served
 use Rattle.store_files.specs.declared.fault.FileFault.{FileFault}
 use Rattle.store_files.specs.declared.fault.FileFault.TheVariants as file
 use Rattle.gateway_server.specs.declared.fault.Fault.{Fault}

@@ -11,40 +11,21 @@ use Rattle.gateway_server.specs.declared.fault.Fault.{Fault}
 use Rattle.gateway_server.specs.declared.fault.Fault.TheVariants.{Listen}
 
 -- it prints where it listens, or events, while it runs
-abbrev pub TellsEarly : Mode → Type 0
-TellsEarly (mode.Run file listen links) = Unit
-TellsEarly (mode.Watch file) = Unit
-TellsEarly (mode.Format file net_id slots) = ⊥
-TellsEarly (mode.List file) = ⊥
-TellsEarly (mode.Serve file listen links) = ⊥
-TellsEarly (mode.Stop file) = ⊥
-TellsEarly (mode.Devices file) = ⊥
-TellsEarly (mode.Status file wait) = ⊥
-TellsEarly (mode.Restore file new_file grants above) = ⊥
+abbrev pub PrintsEarly : Mode → Type 0
+PrintsEarly (mode.Run file listen links) = Unit
+PrintsEarly (mode.Watch file) = Unit
+PrintsEarly other = ⊥
 
 -- it prints something, early or when it is done
-abbrev pub SaysSomething : Mode → Type 0
-SaysSomething (mode.Format file net_id slots) = ⊥
-SaysSomething (mode.Stop file) = ⊥
-SaysSomething (mode.Run file listen links) = Unit
-SaysSomething (mode.Watch file) = Unit
-SaysSomething (mode.List file) = Unit
-SaysSomething (mode.Serve file listen links) = Unit
-SaysSomething (mode.Devices file) = Unit
-SaysSomething (mode.Status file wait) = Unit
-SaysSomething (mode.Restore file new_file grants above) = Unit
+abbrev pub PrintsSomething : Mode → Type 0
+PrintsSomething (mode.Format file net_id slots) = ⊥
+PrintsSomething (mode.Stop file) = ⊥
+PrintsSomething other = Unit
 
 -- it serves links that come and go, and may fail after it has printed where it listens
 abbrev pub AsksToRun : Mode → Type 0
 AsksToRun (mode.Run file listen links) = Unit
-AsksToRun (mode.Watch file) = ⊥
-AsksToRun (mode.Format file net_id slots) = ⊥
-AsksToRun (mode.List file) = ⊥
-AsksToRun (mode.Serve file listen links) = ⊥
-AsksToRun (mode.Stop file) = ⊥
-AsksToRun (mode.Devices file) = ⊥
-AsksToRun (mode.Status file wait) = ⊥
-AsksToRun (mode.Restore file new_file grants above) = ⊥
+AsksToRun other = ⊥
 
 -- the result of a command that returns such a value: the text to print, or the fault
 abbrev pub outcome_with : {A : Type 0} → (A → List ℕ) → Result A Fault → Result (List ℕ) Fault
@@ -57,8 +38,8 @@ abbrev pub WasObeyed : {O E : Type 0} → (Mode → Result (List ℕ) Fault → 
     → (O → Option (List ℕ)) → O → O → Result (Result (Unit {0}) E) Fault → Type 0
 WasObeyed ends m contents old new result = MatchResult result
     (λ told. (text : List ℕ) × (ends m (Ok text)
-    × MatchResult told (λ _. TellsEarly m ⊎ Appends (contents old) (contents new) text)
-    (λ _. SaysSomething m)))
+    × MatchResult told (λ _. PrintsEarly m ⊎ Appends (contents old) (contents new) text)
+    (λ _. PrintsSomething m)))
     (λ fault. ends m (Err fault) × (AsksToRun m ⊎ (new ≡ old)))
 
 -- these words ask for something that has this property
@@ -70,14 +51,14 @@ pub record IsDone {O : Type 0} (ends : Mode → Result (List ℕ) Fault → Type
     (contents : O → Option (List ℕ)) (old new : O) (m : Mode) : Type 0 where
   pub text : List ℕ
   pub ended : ends m (Ok text)
-  pub told : TellsEarly m ⊎ Appends (contents old) (contents new) text
+  pub told : PrintsEarly m ⊎ Appends (contents old) (contents new) text
 
 -- this failed, and printed nothing, or it was done and its text couldn't be printed
 pub record FellShort {O : Type 0} (ends : Mode → Result (List ℕ) Fault → Type 0) (old new : O)
     (m : Mode) : Type 0 where
   pub outcome : Result (List ℕ) Fault
   pub ended : ends m outcome
-  pub cause : MatchResult outcome (λ _. SaysSomething m)
+  pub cause : MatchResult outcome (λ _. PrintsSomething m)
       (λ fault. (AsksToRun m → fault ≢ Listen) × (AsksToRun m ⊎ (new ≡ old)))
 
 -- this is to serve links that come and go, and the address can't be listened on

@@ -3,7 +3,7 @@ ghost use Rattle.std.specs.Prelude.{◌≡◌, ◌≢◌, ◌++◌, ◌∷◌, [
 ghost use Rattle.std.specs.Prelude.{codes, string_bytes};
 
 use crate::Fault;
-use link_server::{BUSY, Order, WATCHING};
+use lnsd_life::{BUSY, Order, WATCHING};
 use lw_types::Refusal;
 use std::alloc::Global;
 use std::fs::File;

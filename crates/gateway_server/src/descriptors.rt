@@ -2,7 +2,7 @@
 ghost use Rattle.std.specs.Prelude.{◌≡◌, ◌+◌, ◌*◌, ◌<◌, ◌⊎◌, IfOk, MatchResult, length};
 
 use crate::Fault;
-use link_server::PlaceCount;
+use lnsd_life::PlaceCount;
 use lw_types::Refusal;
 use std::alloc::Global;
 use std::io;

@@ -1,5 +1,5 @@
 // Why a command failed.
-use link_server::ServeFault;
+use lnsd_life::ServeFault;
 use lw_types::{Eui, Refusal};
 use store_files::FileFault;
 use thiserror::Error;

@@ -13,7 +13,7 @@ mod stores;
 pub use command_words::{Mode, Usage, words};
 pub use commands::{Commands, ServerCommands};
 pub use fault::Fault;
-pub use link_server::{
+pub use lnsd_life::{
     Gate, LifeClock, LifeReport, LinkCount, Monotonic, NobodyTold, OnBegun, OpenGate, Order,
     PlaceCount, ServeFault, ServedLife, serve_links, serve_on,
 };

@@ -10,7 +10,7 @@ ghost use Rattle.gateway_server.specs.Told.{HasUsageStatus, IsAskedFor, IsDone, 
 use crate::serving::{FinishedLife, run_server, serve};
 use crate::{Commands, Fault};
 use command_words::{Mode, Usage, words};
-use link_server::LifeReport;
+use lnsd_life::LifeReport;
 use lw_types::Refusal;
 use std::alloc::Global;
 use std::fs::File;

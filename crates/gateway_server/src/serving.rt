@@ -6,10 +6,11 @@ use crate::control::{ControlPath, ENDED, bind_control, path_of, real_file, remov
 use crate::descriptors::hold_descriptors;
 use crate::stores::{open_store, open_timed};
 use command_words::Mode;
-use link_server::{
+use lnsd_life::{
     LifeReport, LinkCount, Monotonic, OnBegun, OpenGate, PlaceCount, ServedLife, serve_links,
     serve_on,
 };
+use lnsd_operator::DiskTimes;
 use std::alloc::Global;
 use std::fs::File;
 use std::io::Write;
@@ -18,7 +19,6 @@ use std::os::unix::net::{UnixListener, UnixStream};
 use std::rt::{Clock, Files};
 use std::sync::Wait;
 use std::thread::Threads;
-use timed_disk::DiskTimes;
 
 /// A life of a server that ended without a fault: the mode that asked for it, and its report. Only
 /// [`serve`] and [`run_server`] make one.
@@ -89,7 +89,7 @@ where
     drop(hold_descriptors(rt, alloc, links)?);
     let times = DiskTimes::new();
     let store = open_timed(rt, alloc, file, &times)?;
-    let Entrance {
+    let Sockets {
         listener,
         address,
         clock,
@@ -158,7 +158,7 @@ where
 
 // Where links and operators come in, and the clock of the life.
 #[derive(Drop)]
-struct Entrance<C: Clock> {
+struct Sockets<C: Clock> {
     listener: TcpListener,
     address: SocketAddr,
     clock: Monotonic<C>,
@@ -172,7 +172,7 @@ fn open_up<'x, R>(
     alloc: Global,
     file: &str,
     listen: &str,
-) -> Result<Entrance<&'x R>, Fault>
+) -> Result<Sockets<&'x R>, Fault>
 where
     R: Files<File = File> + Net<Listener = TcpListener, Stream = TcpStream> + Clock,
 {
@@ -183,7 +183,7 @@ where
     } = listen_at(rt, listen)?;
     let path = path_of(alloc, &real_file(rt, alloc, file)?)?;
     let control = bind_control(rt, &path)?;
-    Ok(Entrance {
+    Ok(Sockets {
         listener,
         address,
         clock,

@@ -7,6 +7,7 @@ ghost use Rattle.store.specs.State.{store_state};
 use crate::Fault;
 use disk::{Disk, FileDisk};
 use gateway_wire::list_text;
+use lnsd_operator::{DiskTimes, TimedDisk};
 use lw_types::{NetId, Refusal};
 use sessions::Slots;
 use std::alloc::Global;
@@ -14,7 +15,6 @@ use std::fs::File;
 use std::rt::{Clock, Files};
 use store::{Store, format_back, open};
 use store_files::{FileFault, create, remove_new};
-use timed_disk::{DiskTimes, TimedDisk};
 
 /// The store of a file, and what is printed about it.
 #[derive(Drop)]

@@ -17,7 +17,7 @@ pub use answer::{
 };
 pub use downlink::{DOWNLINK, LONGEST_WIRE_FRAME, WireFrame};
 pub use emission::{Emission, app_line, gateway_bytes};
-pub use list::list_text;
+pub use list::{device_line, last_line, list_text};
 pub use recipient::Recipient;
 pub use request::{Request, read_line, read_request};
 pub use word_values::{next_ranged, next_value};

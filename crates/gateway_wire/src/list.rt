@@ -25,19 +25,19 @@ pub fn list_text(alloc: Global, devices: &[Device], seq: u64) -> Result<String, 
     Ok(text)
 }
 
-// The number of devices, and the number of the last decision.
+/// The last line of a list: the number of devices, and the number of the last decision.
 #[tactic(auto, unfolding(lw_types::specs::Words::line_of))]
-fn last_line(alloc: Global, count: usize, seq: u64) -> Result<String, AllocError>
+pub fn last_line(alloc: Global, count: usize, seq: u64) -> Result<String, AllocError>
     ensures { IfOk result (λ text. string_bytes text ≡ last_line count seq) }
 {
     let text = format!(in alloc; "devices {count} seq {seq}\n")?;
     Ok(text)
 }
 
-// Slot, DevEUI, last JoinNonce granted, the current session with its counters, the number of
-// waiting items, and the number of uplinks counted.
+/// The line of a device: slot, DevEUI, last JoinNonce granted, the current session with its
+/// counters, the number of waiting items, and the number of uplinks counted.
 #[tactic(auto, unfolding(lw_types::specs::Words::line_of))]
-fn device_line(alloc: Global, slot: usize, device: &Device) -> Result<String, AllocError>
+pub fn device_line(alloc: Global, slot: usize, device: &Device) -> Result<String, AllocError>
     ensures { IfOk result (λ text. string_bytes text ≡ device_line slot device.now) }
 {
     let dev_eui = device.dev_eui;

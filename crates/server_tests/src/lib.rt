@@ -1,11 +1,29 @@
-//! Tests of the server's words, of the words of its faults, and of the lines that it prints. They
-//! are above `gateway_server`, so that it is proved once. Whole runs of the server are played on
-//! the built program, by `tests/lnsd/hostile` and `examples/server/walk`.
+//! Tests of a server's life over loopback sockets: what clients send and receive, and the result.
+//! Both ends are in one process, and each client sends everything before the life begins. Also
+//! tests of the server's words, of the words of its faults, and of the lines that it prints. Whole
+//! runs of the server are played on the built program, by `tests/lnsd/hostile` and
+//! `examples/server/walk`.
 #![tactic(auto)]
 
 #[cfg(test)]
+mod disks;
+#[cfg(test)]
+mod fault_words_tests;
+#[cfg(test)]
 mod faults_tests;
 #[cfg(test)]
+mod gates;
+#[cfg(test)]
+mod held_tests;
+#[cfg(test)]
+mod lives;
+#[cfg(test)]
+mod places_tests;
+#[cfg(test)]
+mod rows_tests;
+#[cfg(test)]
 mod sights_tests;
+#[cfg(test)]
+mod wire;
 #[cfg(test)]
 mod words_tests;

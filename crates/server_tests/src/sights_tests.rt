@@ -1,8 +1,8 @@
 // The lines of events for operators.
 use devices::{Application, SessionName};
 use gateway_wire::Recipient;
+use lnsd_operator::{FrameName, Sight};
 use lw_types::{DevAddr, Eui, JoinNonce, Reception, Refusal};
-use sights::{FrameName, Sight};
 use std::alloc::{AllocError, Global};
 
 const GATEWAY: Eui = Eui(0xB1);

@@ -11,7 +11,10 @@ use Rattle.sessions.specs.Decision.{is_frugal}
 use Rattle.session_core.specs.State.{DecisionsState}
 use Rattle.session_core.specs.Core.{CoreState, with_outcome}
 use Rattle.session_core.specs.Deciding.{Keeps, Makes, verdict_of, step_if_room}
-use Rattle.session_core.specs.Events.{Asks, Closes, Handles, HasClosed, Hears, IsTurn, Starves, Ticks, has_due, core_at_moment}
+use Rattle.session_core.specs.Calls.{work_of}
+use Rattle.session_core.specs.Events.{Closes, Handles, HasClosed, Hears, IsTurn, Starves, has_due, core_at_moment}
+use Rattle.session_core.specs.declared.event.Event.{Event}
+use Rattle.session_core.specs.declared.event.Event.TheVariants.{Hear, Tick, Ask}
 use Rattle.session_core.specs.declared.turn.Turn.{Turn}
 
 -- the number made doesn't fall, and nothing is taken
@@ -82,14 +85,13 @@ module _ (Own : CoreState → Option Refusal → CoreState → Type 0)
       (closed-grows (core_at_moment old moment) h.between h.closed)
       (ends-grows (has_due h.between) h.between new turn.refused h.own)
 
-pub ticked-grows : (old new : CoreState) (moment : ℕ) (turn : Turn) → IsTurn old moment Ticks turn new → Grows old.decisions new.decisions
-ticked-grows = turn-grows Ticks (λ s refused new h. same-grows s.decisions new.decisions (ap (λ (s : CoreState). s.decisions) h.1))
+heard-grows : (copy : FrameCopy) (s new : CoreState) (refused : Option Refusal) → Hears copy s refused new → Grows s.decisions new.decisions
+heard-grows copy s new refused h = search (rules, h)
 
-pub asked-grows : (command : Command) (old new : CoreState) (moment : ℕ) (turn : Turn) → IsTurn old moment (Asks command) turn new → Grows old.decisions new.decisions
-asked-grows command = turn-grows (Asks command) (λ s refused new h. handled-grows command (verdict_of refused) s new h)
+worked-grows : (event : Event) (s : CoreState) (refused : Option Refusal) (new : CoreState) → work_of event s refused new → Grows s.decisions new.decisions
+worked-grows (Hear copy) s refused new h = heard-grows copy s new refused h
+worked-grows Tick s refused new h = same-grows s.decisions new.decisions (ap (λ (s : CoreState). s.decisions) h.1)
+worked-grows (Ask command) s refused new h = handled-grows command (verdict_of refused) s new h
 
-heard-own : (copy : FrameCopy) (s new : CoreState) (refused : Option Refusal) → Hears copy s refused new → Grows s.decisions new.decisions
-heard-own copy s new refused h = search (rules, h)
-
-pub heard-grows : (copy : FrameCopy) (old new : CoreState) (moment : ℕ) (turn : Turn) → IsTurn old moment (Hears copy) turn new → Grows old.decisions new.decisions
-heard-grows copy = turn-grows (Hears copy) (λ s refused new h. heard-own copy s new refused h)
+pub event-grows : (event : Event) (old new : CoreState) (moment : ℕ) (turn : Turn) → IsTurn old moment (work_of event) turn new → Grows old.decisions new.decisions
+event-grows event = turn-grows (work_of event) (worked-grows event)

@@ -3,6 +3,7 @@ pub mod Deciding
 pub mod Kept
 pub mod Core
 pub mod Events
+pub mod Calls
 pub mod Handling
 pub mod KeptCore
 pub mod Standing

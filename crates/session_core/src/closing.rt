@@ -4,11 +4,12 @@ ghost use Rattle.std.specs.Prelude.{Some, MatchBool, MatchResult, IfOk};
 ghost use Rattle.std.specs.Option.{MatchOption};
 ghost use Rattle.lw_types.specs.declared.refusal.Refusal.TheVariants.{OutOfMemory};
 ghost use Rattle.devices.specs.declared.command.Command.TheVariants as commands;
+ghost use Rattle.session_core.specs.Calls.{work_of};
 ghost use Rattle.session_core.specs.Core.{CoreState, IsLawfulCore, with_outcome};
 ghost use Rattle.session_core.specs.Events.{Asks, Closes, ClosesOldest, Handles, HandsInOldest};
 ghost use Rattle.session_core.specs.Events.{HasClosed, IsHeard, has_due, core_at_moment};
 
-use crate::{Core, Moment, Outcome};
+use crate::{Core, Event, Moment, Outcome};
 use devices::{Command, Heard, Hearings, is_receivable};
 use lw_types::{FrameCopy, PhyPayload, Refusal};
 use std::alloc::AllocError;
@@ -84,8 +85,21 @@ impl Core {
         }
     }
 
-    /// Hands in a command to be decided, and notes its outcome.
-    pub(crate) fn hand_in(&mut self, command: Command) -> Result<(), Refusal>
+    /// Does the work of an event itself, after the windows that are due were closed. Returns why it
+    /// is refused, if it is.
+    pub(crate) fn work(&mut self, event: Event) -> Option<Refusal>
+        requires { has_due self.old ≡ false }
+        ensures { work_of event self.old result self.new }
+    {
+        match event {
+            Event::Hear(copy) => self.listen(copy).err(),
+            Event::Tick => None,
+            Event::Ask(command) => self.hand_in(command).err(),
+        }
+    }
+
+    // Hands in a command to be decided, and notes its outcome.
+    fn hand_in(&mut self, command: Command) -> Result<(), Refusal>
         ensures { Handles self.old command result self.new }
     {
         let answer = self.decisions.keep(command);
@@ -101,8 +115,8 @@ impl Core {
         refusal
     }
 
-    /// Puts a copy of a frame into its window, or opens one.
-    pub(crate) fn listen(&mut self, copy: FrameCopy) -> Result<(), Refusal>
+    // Puts a copy of a frame into its window, or opens one.
+    fn listen(&mut self, copy: FrameCopy) -> Result<(), Refusal>
         requires { has_due self.old ≡ false }
         ensures { IsHeard copy self.old result self.new }
     {

@@ -4,12 +4,13 @@ ghost use Rattle.lw_types.specs.declared.refusal.Refusal.TheVariants.{OutOfMemor
 ghost use Rattle.devices.specs.declared.command.Command.TheVariants as commands;
 ghost use Rattle.session_core.specs.State.{now_of, last_number};
 ghost use Rattle.session_core.specs.Deciding.{after_taking};
+ghost use Rattle.session_core.specs.Calls.{work_of};
 ghost use Rattle.session_core.specs.Core.{IsLawfulCore, new_core};
 ghost use Rattle.session_core.specs.Events.{IsTurn, Asks, Hears, Starves, Ticks, next_due};
 
 use crate::decisions::Decisions;
 use crate::observed::Observed;
-use crate::{ClosedFrame, MOST_OUTCOMES, Moment, Most, Outcome, Turn};
+use crate::{ClosedFrame, Event, MOST_OUTCOMES, Moment, Most, Outcome, Turn};
 use circular_buffer::HeapCircularBuffer;
 use dedup::Windows;
 use devices::{Command, MacQueueing, Provisioning, Queueing};
@@ -168,71 +169,62 @@ impl Core {
         &self.outcomes
     }
 
-    /// A gateway heard a frame. Refused with `UnknownChannel` if that wasn't on a channel at a data
-    /// rate from 0 to 5, and then as [`Windows::add`] refuses the copy.
-    pub fn hear(&mut self, moment: Moment, copy: FrameCopy) -> Turn
-        ensures turn { IsTurn self.old moment (Hears copy) result self.new }
+    /// An event comes. A copy of a frame is refused with `UnknownChannel` if it wasn't on a channel
+    /// at a data rate from 0 to 5, and then as [`Windows::add`] refuses it. A command is refused
+    /// with `Backlog` if 4,096 decisions wait or no number is left, and then as [`Table::decide`]
+    /// refuses it. `OutOfMemory` may replace any of these if a due window couldn't be closed.
+    pub fn handle(&mut self, moment: Moment, event: Event) -> Turn
+        ensures turn { IsTurn self.old moment (work_of event) result self.new }
         ensures lawful { IsLawfulCore self.old }
     {
         let from = self.made();
         let refused = match self.begin(moment) {
-            Ok(()) => self.listen(copy).err(),
+            Ok(()) => self.work(event),
             Err(refusal) => Some(refusal),
         };
         let to = self.made();
         Turn { from, to, refused }
     }
 
-    /// Time passes.
+    /// A gateway heard a frame ([`Core::handle`]).
+    pub fn hear(&mut self, moment: Moment, copy: FrameCopy) -> Turn
+        ensures turn { IsTurn self.old moment (Hears copy) result self.new }
+        ensures lawful { IsLawfulCore self.old }
+    {
+        self.handle(moment, Event::Hear(copy))
+    }
+
+    /// Time passes ([`Core::handle`]).
     pub fn tick(&mut self, moment: Moment) -> Turn
         ensures turn { IsTurn self.old moment Ticks result self.new }
         ensures lawful { IsLawfulCore self.old }
     {
-        let from = self.made();
-        let refused = self.begin(moment).err();
-        let to = self.made();
-        Turn { from, to, refused }
+        self.handle(moment, Event::Tick)
     }
 
-    /// An application provisions a device.
+    /// An application provisions a device ([`Core::handle`]).
     pub fn provision(&mut self, moment: Moment, provisioning: Provisioning) -> Turn
         ensures turn { IsTurn self.old moment
             (Asks (commands.Provision provisioning)) result self.new }
         ensures lawful { IsLawfulCore self.old }
     {
-        self.decide(moment, Command::Provision(provisioning))
+        self.handle(moment, Event::Ask(Command::Provision(provisioning)))
     }
 
-    /// An application queues an item for its device.
+    /// An application queues an item for its device ([`Core::handle`]).
     pub fn queue(&mut self, moment: Moment, queueing: Queueing) -> Turn
         ensures turn { IsTurn self.old moment (Asks (commands.Queue queueing)) result self.new }
         ensures lawful { IsLawfulCore self.old }
     {
-        self.decide(moment, Command::Queue(queueing))
+        self.handle(moment, Event::Ask(Command::Queue(queueing)))
     }
 
-    /// An application queues MAC commands for its device.
+    /// An application queues MAC commands for its device ([`Core::handle`]).
     pub fn queue_mac(&mut self, moment: Moment, queueing: MacQueueing) -> Turn
         ensures turn { IsTurn self.old moment (Asks (commands.QueueMac queueing)) result self.new }
         ensures lawful { IsLawfulCore self.old }
     {
-        self.decide(moment, Command::QueueMac(queueing))
-    }
-
-    /// A command comes. Refused with `Backlog` if 4,096 decisions wait or no number is left, and
-    /// then as [`Table::decide`] refuses it. `OutOfMemory` may replace any of these if a due window
-    /// couldn't be closed.
-    pub fn decide(&mut self, moment: Moment, command: Command) -> Turn
-        ensures turn { IsTurn self.old moment (Asks command) result self.new }
-        ensures lawful { IsLawfulCore self.old }
-    {
-        let from = self.made();
-        let refused = match self.begin(moment) {
-            Ok(()) => self.hand_in(command).err(),
-            Err(refusal) => Some(refusal),
-        };
-        let to = self.made();
-        Turn { from, to, refused }
+        self.handle(moment, Event::Ask(Command::QueueMac(queueing)))
     }
 
     /// A command comes, but memory to hand it in ran out. It gets the refusal that it would get

@@ -7,6 +7,7 @@
 mod books;
 mod closing;
 mod decisions;
+mod event;
 mod events;
 pub mod laws;
 mod locked;
@@ -18,11 +19,12 @@ mod turn;
 
 pub use books::{Books, Made, Taken};
 pub use decisions::{LAST_NUMBER, MOST_UNTAKEN};
+pub use event::{CallKind, Event};
 pub use events::Core;
-pub use locked::Sessions;
+pub use locked::{Handled, Sessions};
 pub use observed::ClosedFrame;
 pub use outcome::{MOST_OUTCOMES, Outcome};
-pub use seat::{CallKind, LastCall, Seat, Taker};
+pub use seat::{LastCall, Seat, Taker};
 pub use sessions::Most;
 pub use shared::Shared;
 pub use turn::{LAST_MOMENT, Moment, Turn};

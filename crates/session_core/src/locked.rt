@@ -1,51 +1,59 @@
 // A core that several threads share, behind a lock.
 ghost use Rattle.std.specs.Prelude.{◌≡◌, ◌+◌, ◌≤◌, length, IfErr, IfOk, MatchResult};
 ghost use Rattle.lw_types.specs.declared.refusal.Refusal.TheVariants.{OutOfMemory};
+ghost use Rattle.session_core.specs.Calls.{call_kind_of};
 ghost use Rattle.session_core.specs.Seats.{HasMade};
-ghost use Rattle.session_core.specs.declared.seat.CallKind.TheVariants.{Asked, Heard, Ticked};
+ghost use Rattle.session_core.specs.declared.event.CallKind.TheVariants.{Asked, Heard, Ticked};
 
-use crate::{Books, Moment, Most, Outcome, Seat, Shared, Taker, Turn};
-use devices::{ApplicationCommand, MacQueueing, Provisioning, Queueing};
+use crate::{Books, ClosedFrame, Event, Moment, Most, Outcome, Seat, Shared, Taker, Turn};
+use devices::{Command, MacQueueing, Provisioning, Queueing};
 use lw_types::{FrameCopy, Refusal};
 use sessions::Batch;
 use std::alloc::Global;
 use std::sync::{Mutex, Wait};
 
-/// The calls of [`Shared`]; each locks it for the duration of that call alone. A server's flusher
-/// uses these calls to take decisions, and its closer to ask for moments. What is handed in to a
-/// server goes to [`Shared`] itself, by a worker or the closer that holds the lock: the frames
-/// whose windows the call closed have to be fetched before the lock is released
-/// ([`Shared::take_closed`]). The other calls are for callers that don't need these frames, for
-/// example tests.
+/// What a call of [`Sessions::handle`] did.
+#[derive(Drop)]
+pub struct Handled {
+    pub turn: Turn,
+    /// The frames whose windows the call closed, the oldest first. There are none unless the core
+    /// is observed ([`Shared::observe`]).
+    pub closed: Vec<ClosedFrame>,
+}
+
+/// The calls of [`Shared`]; each locks it for the duration of that call alone. A server's workers
+/// and its closer hand in events by [`Sessions::handle`]. Its flusher takes decisions, and its
+/// closer asks for moments. The calls of one kind of event are for callers that don't need the
+/// frames whose windows were closed, for example tests.
 ///
-/// Across threads, a caller knows what its own share says. Its seat's share grew by exactly what
-/// the call made, and the seat's last call is this one: of this kind, at this moment, with the
-/// refusal that is returned. The contracts don't say which frame or command was handed in. A call
-/// that waits for the lock need not return.
+/// Across threads, a caller knows what its own seat says. Exactly one call was made through it. Its
+/// share grew by exactly what the call made, and the seat's last call is this one: of this kind, at
+/// this moment, with the refusal that is returned. The kind says whose copy or command was handed
+/// in; which one it was is in no contract. A call that waits for the lock need not return.
 pub trait Sessions<B: Books> {
     /// The number of decisions made in this life; for inspection, for example by tests.
     fn made<R: Wait>(&self, rt: &R) -> u64;
 
-    /// A gateway heard a frame.
+    /// An event comes. The frames whose windows it closed are returned, too, if the core is
+    /// observed ([`Shared::observe`]).
+    fn handle<R: Wait>(&self, rt: &R, seat: &mut Seat<B>, moment: Moment, event: Event) -> Handled
+        ensures share { HasMade seat.old seat.new moment (call_kind_of event) result.turn };
+
+    /// A gateway heard a frame ([`Sessions::handle`]).
     fn hear<R: Wait>(&self, rt: &R, seat: &mut Seat<B>, moment: Moment, copy: FrameCopy) -> Turn
-        ensures share { HasMade seat.old seat.new moment Heard result };
+        ensures share { HasMade seat.old seat.new moment (Heard copy.reception.gateway) result }
+    {
+        self.handle(rt, seat, moment, Event::Hear(copy)).turn
+    }
 
-    /// Time passes.
+    /// Time passes ([`Sessions::handle`]).
     fn tick<R: Wait>(&self, rt: &R, seat: &mut Seat<B>, moment: Moment) -> Turn
-        ensures share { HasMade seat.old seat.new moment Ticked result };
+        ensures share { HasMade seat.old seat.new moment Ticked result }
+    {
+        self.handle(rt, seat, moment, Event::Tick).turn
+    }
 
-    /// An application asks for a command.
-    fn ask<R: Wait>(
-        &self,
-        rt: &R,
-        seat: &mut Seat<B>,
-        moment: Moment,
-        asked: ApplicationCommand,
-    ) -> Turn
-        ensures share { HasMade seat.old seat.new moment Asked result };
-
-    /// An application provisions a device. This call, and those that queue, are for callers that
-    /// have a single command.
+    /// An application provisions a device ([`Sessions::handle`]).
     fn provision<R: Wait>(
         &self,
         rt: &R,
@@ -53,13 +61,21 @@ pub trait Sessions<B: Books> {
         moment: Moment,
         value: Provisioning,
     ) -> Turn
-        ensures share { HasMade seat.old seat.new moment Asked result };
+        ensures share { HasMade seat.old seat.new moment (Asked value.application) result }
+    {
+        let event = Event::Ask(Command::Provision(value));
+        self.handle(rt, seat, moment, event).turn
+    }
 
-    /// An application queues an item for its device.
+    /// An application queues an item for its device ([`Sessions::handle`]).
     fn queue<R: Wait>(&self, rt: &R, seat: &mut Seat<B>, moment: Moment, value: Queueing) -> Turn
-        ensures share { HasMade seat.old seat.new moment Asked result };
+        ensures share { HasMade seat.old seat.new moment (Asked value.application) result }
+    {
+        let event = Event::Ask(Command::Queue(value));
+        self.handle(rt, seat, moment, event).turn
+    }
 
-    /// An application queues MAC commands for its device.
+    /// An application queues MAC commands for its device ([`Sessions::handle`]).
     fn queue_mac<R: Wait>(
         &self,
         rt: &R,
@@ -67,7 +83,11 @@ pub trait Sessions<B: Books> {
         moment: Moment,
         value: MacQueueing,
     ) -> Turn
-        ensures share { HasMade seat.old seat.new moment Asked result };
+        ensures share { HasMade seat.old seat.new moment (Asked value.application) result }
+    {
+        let event = Event::Ask(Command::QueueMac(value));
+        self.handle(rt, seat, moment, event).turn
+    }
 
     /// Takes the oldest untaken decisions, at most `max` of them.
     fn take<R: Wait>(&self, rt: &R, taker: &mut Taker<B>, max: Most) -> Result<Batch, Refusal>
@@ -93,46 +113,11 @@ impl<B: Books> Sessions<B> for Mutex<Shared<B>> {
         self.lock(rt).made()
     }
 
-    fn hear<R: Wait>(&self, rt: &R, seat: &mut Seat<B>, moment: Moment, copy: FrameCopy) -> Turn {
-        self.lock(rt).hear(seat, moment, copy)
-    }
-
-    fn tick<R: Wait>(&self, rt: &R, seat: &mut Seat<B>, moment: Moment) -> Turn {
-        self.lock(rt).tick(seat, moment)
-    }
-
-    fn ask<R: Wait>(
-        &self,
-        rt: &R,
-        seat: &mut Seat<B>,
-        moment: Moment,
-        asked: ApplicationCommand,
-    ) -> Turn {
-        self.lock(rt).ask(seat, moment, asked)
-    }
-
-    fn provision<R: Wait>(
-        &self,
-        rt: &R,
-        seat: &mut Seat<B>,
-        moment: Moment,
-        value: Provisioning,
-    ) -> Turn {
-        self.lock(rt).provision(seat, moment, value)
-    }
-
-    fn queue<R: Wait>(&self, rt: &R, seat: &mut Seat<B>, moment: Moment, value: Queueing) -> Turn {
-        self.lock(rt).queue(seat, moment, value)
-    }
-
-    fn queue_mac<R: Wait>(
-        &self,
-        rt: &R,
-        seat: &mut Seat<B>,
-        moment: Moment,
-        value: MacQueueing,
-    ) -> Turn {
-        self.lock(rt).queue_mac(seat, moment, value)
+    fn handle<R: Wait>(&self, rt: &R, seat: &mut Seat<B>, moment: Moment, event: Event) -> Handled {
+        let mut sessions = self.lock(rt);
+        let turn = sessions.handle(seat, moment, event);
+        let closed = sessions.take_closed();
+        Handled { turn, closed }
     }
 
     fn take<R: Wait>(&self, rt: &R, taker: &mut Taker<B>, max: Most) -> Result<Batch, Refusal> {

@@ -1,19 +1,8 @@
 // The shares that threads have in what a core made and gave.
-use crate::{Books, Made, Moment, Taken};
+use crate::{Books, CallKind, Made, Moment, Taken};
 use lw_types::Refusal;
 use std::marker::Model;
 use std::sync::ledger::Share;
-
-/// What a call handed in.
-#[derive(Clone, Copy, PartialEq, Eq)]
-pub enum CallKind {
-    /// A gateway's copy of a frame.
-    Heard,
-    /// Only a moment.
-    Ticked,
-    /// An application's command.
-    Asked,
-}
 
 /// What a call handed in, at which moment, and why it was refused, if it was.
 #[derive(Clone, Copy, PartialEq, Eq)]
@@ -23,13 +12,14 @@ pub struct LastCall {
     pub refused: Option<Refusal>,
 }
 
-/// A worker's share of the decisions that were made. In contracts it is the number of decisions
-/// made through it, and the last call. The lock hides other threads' calls, but this seat belongs
-/// to its caller alone, so it says what the caller's own call did.
+/// A worker's share of the decisions that were made. In contracts it is the number of calls through
+/// it, the number of decisions made through it, and the last call. The lock hides other threads'
+/// calls, but this seat belongs to its caller alone, so it says what the caller's own call did.
 #[derive(Drop)]
 pub struct Seat<B: Books> {
     pub(crate) share: Share<Made<B>>,
     pub(crate) count: u64,
+    pub(crate) calls: u64,
     pub(crate) last: Option<LastCall>,
 }
 
@@ -39,7 +29,7 @@ impl<B: Books> Model for Seat<B> {
 
     ghost Value = { SeatState };
 
-    ghost view = { λ s. record { made = s.count; last = s.last } };
+    ghost view = { λ s. record { calls = s.calls; made = s.count; last = s.last } };
 
     ghost invariant = { λ s. (s.share.parts ≡ 1) × (s.share.amount ≡ s.count) };
 }
@@ -55,6 +45,7 @@ impl<B: Books> Seat<B> {
         Seat {
             share,
             count: 0,
+            calls: 0,
             last: None,
         }
     }
@@ -64,6 +55,14 @@ impl<B: Books> Seat<B> {
         ensures { result ≡ self.now.made }
     {
         self.count
+    }
+
+    /// The number of calls through this seat, at most 2^64 - 1; for inspection, for example by
+    /// tests.
+    pub fn calls(&self) -> u64
+        ensures { result ≡ self.now.calls }
+    {
+        self.calls
     }
 
     /// The last call through this seat; for inspection, for example by tests.

@@ -2,18 +2,18 @@
 ghost use Rattle.std.specs.Prelude.{◌≡◌, ◌+◌, ◌≤◌, ◌<◌, ◌^◌, ◌↔◌, length, take, IfSome};
 ghost use Rattle.std.specs.Prelude.{IsSome, IsTrue, MatchResult};
 ghost use Rattle.lw_types.specs.declared.refusal.Refusal.TheVariants.{OutOfMemory};
-ghost use Rattle.devices.specs.Command.{as_command};
 ghost use Rattle.devices.specs.declared.command.Command.TheVariants as commands;
+ghost use Rattle.session_core.specs.Calls.{call_kind_of, work_of};
 ghost use Rattle.session_core.specs.Deciding.{after_taking};
 ghost use Rattle.session_core.specs.Events.{Asks, Hears, IsTurn, Ticks, next_due};
 ghost use Rattle.session_core.specs.Seats.{HasMade, made_by, new_seat};
-ghost use Rattle.session_core.specs.declared.seat.CallKind.TheVariants.{Asked, Heard, Ticked};
+ghost use Rattle.session_core.specs.declared.event.CallKind.TheVariants.{Asked, Heard, Ticked};
 
 use crate::{
-    Books, CallKind, ClosedFrame, Core, LastCall, Made, Moment, Most, Outcome, Seat, Taken, Taker,
-    Turn,
+    Books, CallKind, ClosedFrame, Core, Event, LastCall, Made, Moment, Most, Outcome, Seat, Taken,
+    Taker, Turn,
 };
-use devices::{ApplicationCommand, MacQueueing, Provisioning, Queueing};
+use devices::{Command, MacQueueing, Provisioning, Queueing};
 use lw_types::{FrameCopy, Refusal};
 use sessions::Batch;
 use std::alloc::Global;
@@ -103,15 +103,25 @@ impl<B: Books> Shared<B> {
         self.core.take_closed()
     }
 
+    /// An event comes ([`Core::handle`]).
+    pub fn handle(&mut self, seat: &mut Seat<B>, moment: Moment, event: Event) -> Turn
+        ensures turn { IsTurn self.old.core moment (work_of event) result self.new.core }
+        ensures share { HasMade seat.old seat.new moment (call_kind_of event) result }
+        ensures left { self.new.left ≡ self.old.left }
+    {
+        let kind = event.kind();
+        let turn = self.core.handle(moment, event);
+        count(&mut self.made, seat, moment, kind, &turn);
+        turn
+    }
+
     /// A gateway heard a frame ([`Core::hear`]).
     pub fn hear(&mut self, seat: &mut Seat<B>, moment: Moment, copy: FrameCopy) -> Turn
         ensures turn { IsTurn self.old.core moment (Hears copy) result self.new.core }
-        ensures share { HasMade seat.old seat.new moment Heard result }
+        ensures share { HasMade seat.old seat.new moment (Heard copy.reception.gateway) result }
         ensures left { self.new.left ≡ self.old.left }
     {
-        let turn = self.core.hear(moment, copy);
-        count(&mut self.made, seat, moment, CallKind::Heard, &turn);
-        turn
+        self.handle(seat, moment, Event::Hear(copy))
     }
 
     /// Time passes ([`Core::tick`]).
@@ -120,53 +130,37 @@ impl<B: Books> Shared<B> {
         ensures share { HasMade seat.old seat.new moment Ticked result }
         ensures left { self.new.left ≡ self.old.left }
     {
-        let turn = self.core.tick(moment);
-        count(&mut self.made, seat, moment, CallKind::Ticked, &turn);
-        turn
+        self.handle(seat, moment, Event::Tick)
     }
 
-    /// An application provisions a device ([`Core::provision`]). The server calls [`Shared::ask`];
-    /// this call, and those that queue, are for callers that have a single command, for example
-    /// tests.
+    /// An application provisions a device ([`Core::provision`]).
     pub fn provision(&mut self, seat: &mut Seat<B>, moment: Moment, value: Provisioning) -> Turn
         ensures turn { IsTurn self.old.core moment
             (Asks (commands.Provision value)) result self.new.core }
-        ensures share { HasMade seat.old seat.new moment Asked result }
+        ensures share { HasMade seat.old seat.new moment (Asked value.application) result }
         ensures left { self.new.left ≡ self.old.left }
     {
-        self.ask(seat, moment, ApplicationCommand::Provision(value))
+        self.handle(seat, moment, Event::Ask(Command::Provision(value)))
     }
 
     /// An application queues an item for its device ([`Core::queue`]).
     pub fn queue(&mut self, seat: &mut Seat<B>, moment: Moment, value: Queueing) -> Turn
         ensures turn { IsTurn self.old.core moment
             (Asks (commands.Queue value)) result self.new.core }
-        ensures share { HasMade seat.old seat.new moment Asked result }
+        ensures share { HasMade seat.old seat.new moment (Asked value.application) result }
         ensures left { self.new.left ≡ self.old.left }
     {
-        self.ask(seat, moment, ApplicationCommand::Queue(value))
+        self.handle(seat, moment, Event::Ask(Command::Queue(value)))
     }
 
     /// An application queues MAC commands for its device ([`Core::queue_mac`]).
     pub fn queue_mac(&mut self, seat: &mut Seat<B>, moment: Moment, value: MacQueueing) -> Turn
         ensures turn { IsTurn self.old.core moment
             (Asks (commands.QueueMac value)) result self.new.core }
-        ensures share { HasMade seat.old seat.new moment Asked result }
+        ensures share { HasMade seat.old seat.new moment (Asked value.application) result }
         ensures left { self.new.left ≡ self.old.left }
     {
-        self.ask(seat, moment, ApplicationCommand::QueueMac(value))
-    }
-
-    /// An application asks for a command ([`Core::decide`]).
-    pub fn ask(&mut self, seat: &mut Seat<B>, moment: Moment, asked: ApplicationCommand) -> Turn
-        ensures turn { IsTurn self.old.core moment
-            (Asks (as_command asked)) result self.new.core }
-        ensures share { HasMade seat.old seat.new moment Asked result }
-        ensures left { self.new.left ≡ self.old.left }
-    {
-        let turn = self.core.decide(moment, asked.into_command());
-        count(&mut self.made, seat, moment, CallKind::Asked, &turn);
-        turn
+        self.handle(seat, moment, Event::Ask(Command::QueueMac(value)))
     }
 
     /// Takes the oldest untaken decisions, at most `max` of them ([`Core::take`]). After an `Err`,
@@ -256,6 +250,7 @@ fn gather_shares<B: Books>(
         let Seat {
             share,
             count: _,
+            calls: _,
             last: _,
         } = seat;
         spare.merge(share);
@@ -263,7 +258,7 @@ fn gather_shares<B: Books>(
     left.checked_add(count) == Some(all)
 }
 
-// Counts the decisions of a turn, and stores the call as the seat's last one.
+// Counts a call and the decisions of its turn, and stores the call as the seat's last one.
 fn count<B: Books>(
     made: &mut Book<Made<B>>,
     seat: &mut Seat<B>,
@@ -279,6 +274,7 @@ fn count<B: Books>(
     made.audit(&mut seat.share);
     made.add(&mut seat.share, turn.to - turn.from);
     seat.count += turn.to - turn.from;
+    seat.calls = seat.calls.saturating_add(1);
     seat.last = Some(LastCall {
         moment,
         kind,

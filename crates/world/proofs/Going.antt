@@ -10,7 +10,7 @@ use Rattle.sessions.specs.Table.{effects_of}
 use Rattle.world.specs.Folding.{RunLaws}
 use Rattle.world.specs.declared.answer.Answer.{Answer}
 use Rattle.world.specs.declared.answer.Answer.TheVariants as answers
-use Rattle.world.specs.declared.event.Event.{Event}
+use Rattle.session_core.specs.declared.event.Event.{Event}
 use Rattle.world.specs.declared.step.Step.{Step}
 use Rattle.world.specs.declared.step.Step.TheVariants as steps
 use Rattle.store.specs.Flights.{Flight}

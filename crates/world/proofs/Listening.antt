@@ -17,8 +17,8 @@ use Rattle.store.specs.State.{StoreState}
 use Rattle.world.specs.Folding.{RunLaws}
 use Rattle.store.specs.Flights.{Flight}
 use Rattle.world.specs.declared.commit.Pipeline.{Pipeline}
-use Rattle.world.specs.declared.event.Event.{Event}
-use Rattle.world.specs.declared.event.Event.TheVariants as events
+use Rattle.session_core.specs.declared.event.Event.{Event}
+use Rattle.session_core.specs.declared.event.Event.TheVariants as events
 use Rattle.world.specs.declared.step.Step.TheVariants as steps
 use Rattle.world.specs.Course.{Origin, Course, after_commands, at_moment, step_commands, handed_in_count, after_copy, after_release, with_closings, after_event}
 use Rattle.world.specs.Answers.{IsTurnAnswer}

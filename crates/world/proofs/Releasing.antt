@@ -18,7 +18,7 @@ use Rattle.world.specs.declared.answer.Answer.TheVariants as answers
 use Rattle.world.specs.declared.commit.LastCommit.{LastCommit}
 use Rattle.world.specs.declared.commit.LastCommit.TheVariants as commits
 use Rattle.world.specs.declared.commit.Pipeline.{Pipeline}
-use Rattle.world.specs.declared.event.Event.{Event}
+use Rattle.session_core.specs.declared.event.Event.{Event}
 use Rattle.world.specs.declared.step.Step.TheVariants as steps
 use Rattle.world.specs.Folding.{RunLaws}
 use Rattle.world.specs.Course.{Checkpoint, Course, Origin, course_after, after_piece, after_release, table_from, with_piece}

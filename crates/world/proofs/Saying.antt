@@ -9,8 +9,8 @@ use Rattle.link_messages.specs.declared.message.Message.{Message}
 use Rattle.link_messages.specs.declared.message.Message.TheVariants.{Copy, Greeting, Line}
 use Rattle.link_messages.specs.Stream.{End, Rest, Fault, IsSaid, peer_after, peer_after_one}
 use Rattle.link_messages.specs.Feeding.{Adds, FeedState, fault_in}
-use Rattle.world.specs.declared.event.Event.{Event}
-use Rattle.world.specs.declared.event.Event.TheVariants as events
+use Rattle.session_core.specs.declared.event.Event.{Event}
+use Rattle.session_core.specs.declared.event.Event.TheVariants as events
 use Rattle.world.specs.declared.links.Links.{Links}
 use Rattle.world.specs.Links.{before_others, AddsNothing, AreHandedIn, HandsIn, Completes, HasSaid, Piece, SaysMore, heard_on, stream_on}
 

@@ -10,8 +10,8 @@ use Rattle.session_core.specs.State.{DecisionsState}
 use Rattle.store.specs.State.{StoreState}
 use Rattle.world.specs.declared.commit.Pipeline.{Pipeline}
 use Rattle.world.specs.declared.answer.EventTurn.{EventTurn}
-use Rattle.world.specs.declared.event.Event.{Event}
-use Rattle.world.specs.declared.event.Event.TheVariants as events
+use Rattle.session_core.specs.declared.event.Event.{Event}
+use Rattle.session_core.specs.declared.event.Event.TheVariants as events
 use Rattle.world.specs.declared.step.Step.TheVariants as steps
 use Rattle.world.specs.Course.{Origin, Course, after_own_copy, after_commands, at_moment, step_commands, handed_in_count, after_copy, with_closings, after_event, after_events, step_if_room, after_command}
 use Rattle.world.specs.Follows.{IsLife}

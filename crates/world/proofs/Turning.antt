@@ -22,8 +22,8 @@ use Rattle.sessions.specs.Table.{TableStep}
 use Rattle.store.specs.State.{StoreState}
 use Rattle.world.specs.Folding.{RunLaws}
 use Rattle.world.specs.declared.commit.Pipeline.{Pipeline}
-use Rattle.world.specs.declared.event.Event.{Event}
-use Rattle.world.specs.declared.event.Event.TheVariants as events
+use Rattle.session_core.specs.declared.event.Event.{Event}
+use Rattle.session_core.specs.declared.event.Event.TheVariants as events
 use Rattle.world.specs.Course.{Origin, Course, after_commands, at_moment, window_command, due_frames, after_copy, with_closings, after_event, step_if_room, after_command, course_windows}
 use Rattle.world.specs.Answers.{IsAsked, IsCopyAnswer, IsOwnRight, IsTurnAnswer}
 use Rattle.world.specs.declared.links.Links.{Links}

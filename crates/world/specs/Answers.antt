@@ -18,8 +18,8 @@ use Rattle.session_core.specs.declared.turn.Turn.{Turn}
 use Rattle.gateway_wire.specs.Emission.{emission}
 use Rattle.world.specs.Links.{AddsNothing, Completes, stream_on}
 use Rattle.world.specs.declared.answer.EventTurn.{EventTurn}
-use Rattle.world.specs.declared.event.Event.{Event}
-use Rattle.world.specs.declared.event.Event.TheVariants as events
+use Rattle.session_core.specs.declared.event.Event.{Event}
+use Rattle.session_core.specs.declared.event.Event.TheVariants as events
 use Rattle.world.specs.declared.step.Step.{Step}
 use Rattle.world.specs.declared.step.Step.TheVariants as steps
 use Rattle.world.specs.declared.answer.Answer.{Answer}

@@ -17,8 +17,8 @@ use Rattle.session_core.specs.declared.decisions.TheConstants.{MOST_UNTAKEN, LAS
 use Rattle.store.specs.Flights.{Flight, Stage, all_failed, all_succeeded, in_flight}
 use Rattle.world.specs.Links.{Piece}
 use Rattle.world.specs.declared.answer.EventTurn.{EventTurn}
-use Rattle.world.specs.declared.event.Event.{Event}
-use Rattle.world.specs.declared.event.Event.TheVariants as events
+use Rattle.session_core.specs.declared.event.Event.{Event}
+use Rattle.session_core.specs.declared.event.Event.TheVariants as events
 use Rattle.world.specs.declared.step.Step.{Step}
 use Rattle.world.specs.declared.step.Step.TheVariants as steps
 use Rattle.world.specs.declared.answer.Answer.{Answer}

@@ -12,8 +12,8 @@ use Rattle.gateway_wire.specs.declared.request.Request.{Request}
 use Rattle.gateway_wire.specs.Request.{IsRequestInRange, IsRequestLine, request_line, command_of}
 use Rattle.link_messages.specs.Stream.{End, Fault, IsSaid, peer_after, peer_after_one}
 use Rattle.link_messages.specs.Feeding.{FeedState, Feeds, fault_in, new_feed}
-use Rattle.world.specs.declared.event.Event.{Event}
-use Rattle.world.specs.declared.event.Event.TheVariants as events
+use Rattle.session_core.specs.declared.event.Event.{Event}
+use Rattle.session_core.specs.declared.event.Event.TheVariants as events
 use Rattle.world.specs.declared.links.Links.{Links}
 
 -- bytes that came on a link, by its number

@@ -4,7 +4,6 @@
 
 mod answer;
 mod commit;
-mod event;
 pub mod laws;
 mod life;
 mod links;
@@ -15,8 +14,8 @@ mod turns;
 mod world;
 
 pub use answer::{Answer, EventTurn};
-pub use event::Event;
 pub use links::events_of;
 pub use runs::run;
+pub use session_core::Event;
 pub use step::Step;
 pub use world::World;

@@ -11,7 +11,7 @@ use lw_types::{FrameCopy, Refusal};
 use session_core::{Moment, Turn};
 
 impl<D: Sim> Life<D> {
-    ghost use Rattle.world.specs.declared.event.Event.TheVariants as events;
+    ghost use Rattle.session_core.specs.declared.event.Event.TheVariants as events;
     ghost use Rattle.world.specs.declared.step.Step.TheVariants as steps;
     ghost use Rattle.world.specs.declared.answer.Answer.TheVariants as answers;
     ghost use Rattle.world.specs.Answers.{event_of};
@@ -48,7 +48,7 @@ impl<D: Sim> Life<D> {
         session_core::laws::windows_stand_for_groups();
         match copy.copy() {
             Ok(own) => {
-                let turn = self.core.hear(moment, own);
+                let turn = self.core.handle(moment, Event::Hear(own));
                 self.told(turn)
             }
             Err(_) => {
@@ -69,7 +69,7 @@ impl<D: Sim> Life<D> {
     {
         laws::of_runs();
         session_core::laws::windows_stand_for_groups();
-        let turn = self.core.tick(moment);
+        let turn = self.core.handle(moment, Event::Tick);
         self.told(turn)
     }
 
@@ -86,7 +86,7 @@ impl<D: Sim> Life<D> {
         session_core::laws::windows_stand_for_groups();
         match copy_of(command) {
             Ok(own) => {
-                let turn = self.core.decide(moment, own);
+                let turn = self.core.handle(moment, Event::Ask(own));
                 self.told(turn)
             }
             Err(_) => {

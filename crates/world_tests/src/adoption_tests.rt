@@ -3,11 +3,11 @@ use crate::answers::tell;
 use crate::rows::add_line;
 use disk::{Image, MemDisk};
 use lw_types::{Refusal, read_hex};
-use plain_world::letters::add_letters;
-use plain_world::worlds::{net_id, new_disk};
 use std::alloc::Global;
 use test_stores::images_under_test::{OLD_FRONT, add_batch_of, disk_of};
 use world::{Answer, Step, World, run};
+use world_model::letters::add_letters;
+use world_model::worlds::{net_id, new_disk};
 
 const SLOTS: u64 = 3;
 

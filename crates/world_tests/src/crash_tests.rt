@@ -1,11 +1,11 @@
 // Crashes in the middle of a commit, and what is opened after them.
 use disk::Image;
 use lw_types::Refusal;
-use plain_world::letters::add_letters;
-use plain_world::steps::provision;
-use plain_world::worlds::{net_id, new_disk};
 use std::alloc::Global;
 use world::Step;
+use world_model::letters::add_letters;
+use world_model::steps::provision;
+use world_model::worlds::{net_id, new_disk};
 
 // What a crash leaves at the open positions.
 #[derive(Clone, Copy)]

@@ -1,10 +1,10 @@
 // The end of a world: what is returned if it is closed, and after a crash.
 use disk::MemDisk;
 use lw_types::Refusal;
-use plain_world::letters::add_letters;
-use plain_world::worlds::{net_id, new_disk};
 use std::alloc::Global;
 use world::{Step, World, run};
+use world_model::letters::add_letters;
+use world_model::worlds::{net_id, new_disk};
 
 const SLOTS: u64 = 3;
 

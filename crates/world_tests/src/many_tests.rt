@@ -1,11 +1,11 @@
 // Many devices, whose decisions wait and are taken in more than one batch.
 use crate::rows::ends_so;
 use lw_types::Refusal;
-use plain_world::letters::add_letters;
-use plain_world::steps::provision;
-use plain_world::worlds::{answers_to, first_difference};
 use std::alloc::Global;
 use world::{Answer, Step};
+use world_model::letters::add_letters;
+use world_model::steps::provision;
+use world_model::worlds::{answers_to, first_difference};
 
 // This number of devices, whose decisions make this number of batches, each by its letters.
 #[derive(Clone, Copy)]

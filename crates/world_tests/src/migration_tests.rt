@@ -4,11 +4,11 @@ use crate::adoption_tests::{OLD_ENTRY, old_disk, steps_of};
 use devices::Effect;
 use disk::{Image, MemDisk, Sim};
 use lw_types::{Refusal, read_hex};
-use plain_world::steps::step_of;
 use std::alloc::Global;
 use test_stores::images_under_test::{OLD_FRONT, add_batch_of, disk_of};
 use test_stores::stores_under_test::{GATE_B, LEN, SECOND_AREA, put};
 use world::{Answer, World, run};
+use world_model::steps::step_of;
 
 // The areas after two checkpoints of that device: gate, version, generation, number, number of
 // records and their length.

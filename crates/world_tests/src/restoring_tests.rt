@@ -3,8 +3,8 @@ use crate::adoption_tests::{left, steps_of};
 use devices::{Activation, Device, GrantsSince, SessionName};
 use disk::{Image, MemDisk};
 use lw_types::{JoinNonce, Refusal};
-use plain_world::worlds::new_disk;
 use std::alloc::Global;
+use world_model::worlds::new_disk;
 
 // The number of slots of the older copies.
 const SLOTS: u64 = 3;

@@ -3,11 +3,11 @@ use crate::links::STREAMS;
 use crate::rows::{add_line, add_rows, ends_so, first_wrong};
 use crate::windows::{GATHERINGS, REFUSED};
 use lw_types::Refusal;
-use plain_world::letters::add_letters;
-use plain_world::steps::{hear, step_of};
-use plain_world::worlds::{SLOTS, first_difference};
 use std::alloc::Global;
 use world::Step;
+use world_model::letters::add_letters;
+use world_model::steps::{hear, step_of};
+use world_model::worlds::{SLOTS, first_difference};
 
 // A new world is idle.
 const IDLE: &str = "\

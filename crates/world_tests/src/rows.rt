@@ -1,10 +1,10 @@
 // Steps that are lines, each with what its answer says.
 use crate::answers::tell;
 use lw_types::Refusal;
-use plain_world::steps::step_of;
-use plain_world::worlds::{SLOTS, answers_to, first_difference};
 use std::alloc::Global;
 use world::{Answer, Step};
+use world_model::steps::step_of;
+use world_model::worlds::{SLOTS, answers_to, first_difference};
 
 /// Appends the steps of a script and the lines of their answers: each line of it has a step, an
 /// arrow and what the answer says. A line that begins with `#` is a comment.

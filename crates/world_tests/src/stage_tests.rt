@@ -1,8 +1,8 @@
 // Worlds and their models take the same steps, and have to give the same answers.
 use lw_types::Refusal;
-use plain_world::letters::add_script;
-use plain_world::worlds::{SLOTS, first_difference};
 use std::alloc::Global;
+use world_model::letters::add_script;
+use world_model::worlds::{SLOTS, first_difference};
 
 const LETTERS: &str = "abtTNpcfreonl";
 

@@ -1,11 +1,11 @@
 // What the calls of a batch after another one write, and those of a change.
 use disk::{Image, MemDisk, Sim};
 use lw_types::Refusal;
-use plain_world::letters::add_letters;
-use plain_world::steps::step_of;
-use plain_world::worlds::{net_id, new_disk};
 use std::alloc::Global;
 use world::{Step, World, run};
+use world_model::letters::add_letters;
+use world_model::steps::step_of;
+use world_model::worlds::{net_id, new_disk};
 
 const SLOTS: u64 = 2;
 

@@ -153,7 +153,7 @@ def test_fifth_watcher(empty: Program, watch: NewWatcher) -> None:
     """Four operators may watch, and a fifth is refused; other orders are taken."""
     watchers = [watch(empty) for _ in range(WATCHERS)]
     assert empty.run("watch", empty.store) == failure("busy")
-    assert empty.run("devices", empty.store) == (0, DEVICES, "")
+    assert empty.devices()[0] == DEVICES.splitlines()
     assert_stopped(empty)
     for watcher in watchers:
         assert watcher.rest() == NOTHING_MORE

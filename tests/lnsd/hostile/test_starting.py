@@ -26,7 +26,7 @@ BESIDE, ATTENDANTS, FEW = 32, 8, 6
 TWO, THREADS = 2, 2 + ATTENDANTS
 # the stack of each thread, in bytes, by docs/OPERATING.md
 STACK = 256 * 1024
-DEVICES = "devices 0 seq 0\n"
+DEVICES = ["devices 0 seq 0"]
 
 # The start of a thread of the number REFUSED_THREAD is refused, or none if that is 0. The size of
 # the stack that is asked for each thread is added to the file STACK_LOG.
@@ -114,7 +114,7 @@ def test_as_many_descriptors_as_it_needs(server: Program) -> None:
     silent = [operator(server) for _ in range(ATTENDANTS - 1)]
     application.asks("hello")
     assert application.hears() == "refused 51"
-    assert server.run("devices", server.store)[1] == DEVICES
+    assert server.devices()[0] == DEVICES
     for link in (*gateways, application):
         link.close()
     assert_stopped(server)
@@ -152,7 +152,7 @@ def test_names(named: Program, watch: NewWatcher, name: str) -> None:
     there = [file for file in os.listdir(folder) if file.endswith(".control")]
     assert there == ["store.control"]
     for other in ("store", "./link", "second", "other/store"):
-        assert named.run("devices", other, cwd=folder) == (0, DEVICES, ""), other
+        assert named.devices(other, cwd=folder)[0] == DEVICES, other
         assert named.run("status", other, cwd=folder)[0] == 0, other
     named.store = os.path.join(folder, "second")
     watcher = watch(named)

@@ -18,7 +18,7 @@ from ..pairs import DEV_EUI, EUI, OWNER, Pair, greeted, records
 from .conftest import NewWatcher
 from .operating import NOTHING_MORE, ORDER, PLACES, assert_stopped, failure, heard
 
-# the names of a status, except the last copies
+# the names of a status, except the last copies and the moment after them
 NAMES = """listening places links gateways applications devices slots windows waiting made decided
     commits dropped faulted taken_over silent checkpoints syncs longest_sync_us""".split()
 # those whose values aren't known before
@@ -31,7 +31,7 @@ COMMANDS = ("stop", "status", "devices", "watch")
 def status_of(server: Program, copies: Sequence[str] = (), **due: int) -> dict[str, str]:
     """The status has its lines, in order, with these values and 0 for the other counts."""
     status = server.status()
-    assert list(status) == [*NAMES, *(f"last_copy_{eui}" for eui in copies)]
+    assert list(status) == [*NAMES, *(f"last_copy_{eui}" for eui in copies), "now"]
     assert server.address
     values = {"listening": f"{HOST}:{server.address[1]}", "places": PLACES, "slots": 8, **due}
     wanted = {name: str(values.get(name, 0)) for name in NAMES if name not in MEASURED}
@@ -41,13 +41,12 @@ def status_of(server: Program, copies: Sequence[str] = (), **due: int) -> dict[s
 
 def heard_at(server: Program, seq: int) -> int:
     """`lnsd devices` prints the device, and how it was heard; when that was, in milliseconds."""
-    status, out, errors = server.run("devices", server.store)
-    assert (status, errors) == (0, "")
-    first, *rest = out.splitlines()
+    (first, *rest), now = server.devices()
     assert rest == [f"devices 1 seq {seq}"]
     words = first.split(" ")
     assert words[:8] == DEVICE.split(" ")
     assert words[9:] == [EUI, "-20", "-95"]
+    assert int(words[8]) <= now
     return int(words[8])
 
 
@@ -72,7 +71,7 @@ def test_status(server: Program, slow_syncs: dict[str, str]) -> None:
     assert 6 <= int(status["syncs"]) - int(first["syncs"]) <= 8
     assert SLOW <= int(status["longest_sync_us"]) / 1e6 < SLOW + 5
     at = int(status[f"last_copy_{EUI}"])
-    assert 0 < at <= 1000 * (time.monotonic() - begun)
+    assert 0 < at <= int(status["now"]) <= 1000 * (time.monotonic() - begun)
     assert at <= heard_at(server, 3) < at + 5000, "an uplink is decided after its copy"
     for link in pair.links():
         link.close()

@@ -183,7 +183,7 @@ fn ask(core: &mut Core, moment: Moment, command: Command) -> Turn {
         Command::Provision(provisioning) => core.provision(moment, provisioning),
         Command::Queue(queueing) => core.queue(moment, queueing),
         Command::QueueMac(queueing) => core.queue_mac(moment, queueing),
-        Command::Heard(heard) => core.decide(moment, Command::Heard(heard)),
+        Command::Heard(_) => core.handle(moment, session_core::Event::Ask(command)),
     }
 }
 

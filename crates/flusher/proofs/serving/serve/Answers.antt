@@ -11,7 +11,7 @@ use Rattle.store.specs.declared.store.Store.{Store}
 use Rattle.flusher.specs.Released.{effects_of_all}
 use Rattle.flusher.specs.declared.released.Released.{Released}
 use Rattle.flusher.specs.Chain.{FeedGives, IsChain}
-use Rattle.flusher.specs.Serving.{GoesOnBehind}
+use Rattle.flusher.specs.Serving.{GoesOnAfter}
 use Rattle.flusher.proofs.Leading.{chains_then, counts_then, nothing_yet, leaves_callable, lead_then}
 use Rattle.flusher.proofs.serving.serve.Goals as goal
 use Rattle.flusher.proofs.serving.serve.Goals.{else-branch-eq0-via-then-branch-eq0+else-done, else-branch-eq0-via-else-branch-eq0}
@@ -31,14 +31,14 @@ last_as {D} {F} {C} {V} {disk} {gives} {effects} {call} {most} {bound} {old} {ne
 
 -- after a chain without a batch it was asked whether all is done
 asked : {S : Type 0} (f : Mut S (Unit {0}) Bool) (count : ℕ) (old new mid : S) (answer : Bool) → count ≡ 0 → answer ≡ false → Called f old tt answer mid → new ≡ mid
-    → GoesOnBehind (λ before answer after. Called f before tt answer after) old count new
+    → GoesOnAfter (λ before answer after. Called f before tt answer after) old count new
 asked f count old new mid answer none not_yet is same =
-    subst (λ n. GoesOnBehind (λ before answer after. Called f before tt answer after) old n new) (sym none)
+    subst (λ n. GoesOnAfter (λ before answer after. Called f before tt answer after) old n new) (sym none)
     (subst (λ s. Called f old tt false s) (sym same) (subst (λ b. Called f old tt b mid) not_yet is))
 
 -- and after one with a batch it wasn't
 unasked : {S : Type 0} (f : Mut S (Unit {0}) Bool) (count : ℕ) (old new : S) → 0 < count → new ≡ old
-    → GoesOnBehind (λ before answer after. Called f before tt answer after) old count new
+    → GoesOnAfter (λ before answer after. Called f before tt answer after) old count new
 unasked f zero old new some same = absurd (omega (arith, some))
 unasked f (suc count) old new some same = same
 
@@ -88,7 +88,7 @@ loop-preserved g c = (
               (λ before released after. Called g.C.FnMut before (released, tt) tt after) 64 c.args.store.now c.loop.store c.chain.new.store
               c.args.feed.now c.loop.feed c.chain.new.feed c.args.out.now c.loop.out c.chain.new.out c.loop.invariant.1.1.1.0
               c.in_ok-chain.field-0 c.loop.invariant.1.1.1.1.0 (last_as c.served.ensures refl c.in_ok-chain.ensures.chain),
-          FoldsTo-push (GoesOnBehind (λ before answer after. Called g.S.FnMut before tt answer after)) c.args.done.now c.loop.invariant.1.1.1.0 c.loop.done c.in_ok-chain.field-0
+          FoldsTo-push (GoesOnAfter (λ before answer after. Called g.S.FnMut before tt answer after)) c.args.done.now c.loop.invariant.1.1.1.0 c.loop.done c.in_ok-chain.field-0
               c.else-branch-eq0.done c.loop.invariant.1.1.1.1.1
               (elim c.else-branch-eq0.branch [
                 | else-branch-eq0-via-then-branch-eq0+else-done w ↦ asked g.S.FnMut c.in_ok-chain.field-0 c.loop.done c.else-branch-eq0.done _ _ (omega (arith, w.if-branch-eq0.true))

@@ -12,7 +12,7 @@ loop-moment-init c last folds =
 pub loop-moment-preserved : goal.loop-moment-preserved
 loop-moment-preserved c last folds =
     c.loop-moment.invariant last
-    (subst (λ l. FoldsTo Comes c.loop-moment.core l last) (sym c.in-Some.ensures.steps.0) (c.take_event.new.core, c.take_event.ensures, folds))
+    (subst (λ l. FoldsTo Comes c.loop-moment.core l last) (sym c.in-Some.ensures.steps.0) (c.handle.new.self, (c.handle.result, c.handle.ensures.turn), folds))
 
 pub returns : goal.returns
 returns c =

@@ -4,7 +4,7 @@ use Rattle.std.proofs.lemmas.List.{length_push}
 use Rattle.std.proofs.lemmas.Result.{err_from_is_err_and}
 use Rattle.session_core.specs.Core.{CoreState, new_core}
 use Rattle.store.specs.State.{store_state}
-use Rattle.flusher_lives.specs.Coming.{GivesBehindComing}
+use Rattle.flusher_lives.specs.Coming.{GivesAfterComing}
 use Rattle.flusher_lives.specs.Deciding.{StaysInStep}
 use Rattle.flusher_lives.specs.declared.core_feed.CoreFeed.{CoreFeed}
 use Rattle.flusher.specs.Released.{effects_of_all}
@@ -68,7 +68,7 @@ returns-in_err-chain_of_core-clause-course g c =
           so.0,
           (
             so.1.0,
-            refused_then g.D.Disk GivesBehindComing (λ (released : Vec Released Global). effects_of_all released.items) (λ before released after. Called g.C.FnMut before (released, tt) tt after) c.args.most c.args.chains c.args.store.now c.loop.store c.chain_of_core.new.store
+            refused_then g.D.Disk GivesAfterComing (λ (released : Vec Released Global). effects_of_all released.items) (λ before released after. Called g.C.FnMut before (released, tt) tt after) c.args.most c.args.chains c.args.store.now c.loop.store c.chain_of_core.new.store
                 first c.loop.feed c.chain_of_core.new.feed c.args.out.now c.loop.out c.chain_of_core.new.out counts r.result c.in_err-chain_of_core.field-0.0 r.ensures.1
                 (omega (arith, many, few)) so.1.1.1.1.1 c.in_err-chain_of_core.ensures.chain,
           ),
@@ -127,7 +127,7 @@ loop-preserved g c =
                   omega (arith, many, longer),
                   (
                     omega (arith, few),
-                    counts_then g.D.Disk GivesBehindComing (λ (released : Vec Released Global). effects_of_all released.items) (λ before released after. Called g.C.FnMut before (released, tt) tt after) c.args.most c.args.store.now c.loop.store c.chain_of_core.new.store
+                    counts_then g.D.Disk GivesAfterComing (λ (released : Vec Released Global). effects_of_all released.items) (λ before released after. Called g.C.FnMut before (released, tt) tt after) c.args.most c.args.store.now c.loop.store c.chain_of_core.new.store
                         first c.loop.feed c.chain_of_core.new.feed c.args.out.now c.loop.out c.chain_of_core.new.out counts count so.1.1.1.1.1 c.in_ok-chain_of_core.ensures.chain,
                   ),
                 ),

@@ -5,7 +5,7 @@ use denote.Param.Members.{Called}
 use Rattle.std.proofs.Common.{◌≡◌, ◌≤◌, Vec, Global, ℕ, List, Ok, length, map}
 use Rattle.session_core.specs.Core.{new_core}
 use Rattle.store.specs.State.{store_state}
-use Rattle.flusher_lives.specs.Coming.{GivesBehindComing}
+use Rattle.flusher_lives.specs.Coming.{GivesAfterComing}
 use Rattle.flusher_lives.specs.Deciding.{StaysInStep}
 use Rattle.flusher.specs.Released.{effects_of_all}
 use Rattle.flusher.specs.Serving.{MakeChains}
@@ -21,4 +21,4 @@ invariant-loop g l =
     first l.feed l.fn.out l.out
     × ((first.core ≡ new_core l.fn.store.table l.fn.store.seq) × ((first.coming.items ≡ l.fn.coming.items)
     × ((counts : List ℕ) × ((length counts ≡ l.counter) × ((l.counter ≤ l.fn.chains)
-    × MakeChains g.D.Disk GivesBehindComing (λ (released : Vec Released Global). effects_of_all released.items) (λ before released after. Called g.C.FnMut before (released, tt) tt after) l.fn.most l.fn.store l.store first l.feed l.fn.out l.out (map (λ count. Ok count) counts))))))))
+    × MakeChains g.D.Disk GivesAfterComing (λ (released : Vec Released Global). effects_of_all released.items) (λ before released after. Called g.C.FnMut before (released, tt) tt after) l.fn.most l.fn.store l.store first l.feed l.fn.out l.out (map (λ count. Ok count) counts))))))))

@@ -1,6 +1,6 @@
 use Rattle.std.proofs.Common.{IfOk, OnOk, subst, sym}
 use Rattle.std.specs.Io.KnownBytes.{Appends}
-use Rattle.link_server.specs.declared.report.LifeReport.{LifeReport}
+use Rattle.lnsd_life.specs.declared.report.LifeReport.{LifeReport}
 use Rattle.gateway_server.specs.Lines.{run_text}
 use Rattle.gateway_server.proofs.running.tell_run.Goals as goal
 

@@ -1,7 +1,7 @@
 -- the events of the messages that are left come after the events so far; if all messages have none,
 -- so have those that are left
 use Rattle.std.proofs.Common.{◌++◌, [], List}
-use Rattle.world.specs.declared.event.Event.{Event}
+use Rattle.session_core.specs.declared.event.Event.{Event}
 use Rattle.world.specs.Links.{AreHandedIn}
 use Rattle.world.proofs.links.events_of.Given as goal
 

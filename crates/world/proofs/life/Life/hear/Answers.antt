@@ -1,7 +1,7 @@
 use Rattle.std.proofs.Common.{ℕ, sym, subst}
 use Rattle.session_core.specs.Events.{Hears, IsTurn as IsCoreTurn}
 use Rattle.store.specs.State.{store_state}
-use Rattle.world.specs.declared.event.Event.TheVariants as events
+use Rattle.session_core.specs.declared.event.Event.TheVariants as events
 use Rattle.world.specs.declared.step.Step.TheVariants as steps
 use Rattle.session_core.specs.declared.turn.Turn.{Turn}
 use Rattle.world.specs.declared.answer.Answer.TheVariants as answers
@@ -17,8 +17,8 @@ returns-in-Ok-clause-course g c origin course f =
     let life = c.args.self.now in
     let law = c.windows_stand_for_groups.ensures.heard in
     subst (λ (told : Turn × ℕ). AnswersOpen origin course (steps.Event c.args.moment (events.Hear c.args.copy.now)) (answers.Turn told.0 told.1)
-    × FollowsLife state origin (course_after origin course (steps.Event c.args.moment (events.Hear c.args.copy.now)) (answers.Turn told.0 told.1)) (record life { core = c.hear-turn.new.self })) (sym c.told.ensures)
-    (does-hear c.of_runs.ensures origin (store_state state life.store) life.commits course c.args.moment life.core c.hear-turn.new.self life.links c.hear-turn.result f.0 f.1 c.hear-turn.ensures.lawful c.args.copy.now (subst (λ copy. IsCoreTurn life.core c.args.moment (Hears copy) c.hear-turn.result c.hear-turn.new.self) c.in-Ok.ensures c.hear-turn.ensures.turn) (law c.args.copy.now life.core c.hear-turn.new.self c.args.moment course.shut c.hear-turn.result course.arrivals (subst (λ copy. IsCoreTurn life.core c.args.moment (Hears copy) c.hear-turn.result c.hear-turn.new.self) c.in-Ok.ensures c.hear-turn.ensures.turn) c.hear-turn.ensures.lawful))
+    × FollowsLife state origin (course_after origin course (steps.Event c.args.moment (events.Hear c.args.copy.now)) (answers.Turn told.0 told.1)) (record life { core = c.handle-turn.new.self })) (sym c.told.ensures)
+    (does-hear c.of_runs.ensures origin (store_state state life.store) life.commits course c.args.moment life.core c.handle-turn.new.self life.links c.handle-turn.result f.0 f.1 c.handle-turn.ensures.lawful c.args.copy.now (subst (λ copy. IsCoreTurn life.core c.args.moment (Hears copy) c.handle-turn.result c.handle-turn.new.self) c.in-Ok.ensures c.handle-turn.ensures.turn) (law c.args.copy.now life.core c.handle-turn.new.self c.args.moment course.shut c.handle-turn.result course.arrivals (subst (λ copy. IsCoreTurn life.core c.args.moment (Hears copy) c.handle-turn.result c.handle-turn.new.self) c.in-Ok.ensures c.handle-turn.ensures.turn) c.handle-turn.ensures.lawful))
 
 pub returns-in-Err-clause-course : goal.returns-in-Err-clause-course
 returns-in-Err-clause-course g c origin course f =

@@ -1,0 +1,5 @@
+pub mod Follows
+pub mod Places
+pub mod Rows
+pub mod Covering
+pub mod Steps

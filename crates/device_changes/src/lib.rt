@@ -1,0 +1,24 @@
+//! Changes of the devices of a table while its store isn't served: devices are imported, amended
+//! and retired, and a table grows.
+//!
+//! Each call makes another table and leaves the old one as it is. No program uses this crate yet:
+//! the commands of `lnsd` that publish such a table in a store come next.
+#![tactic(auto)]
+
+mod change;
+mod changing;
+mod checking;
+mod device;
+mod fault;
+mod growing;
+mod importing;
+pub mod laws;
+mod waiting;
+
+pub use change::{Amendment, Change, Importing, LastJoinNonce, Retirement};
+pub use changing::changed_table;
+pub use checking::faulty_rows;
+pub use fault::{FaultyRow, Refused, RowFault};
+pub use growing::{GrowRefused, grown_table};
+pub use importing::imported_table;
+pub use waiting::waiting_items;

@@ -1,2 +1,0 @@
-mod Found
-mod Links

@@ -1,5 +1,0 @@
-use Rattle.link_server.proofs.flushing.let_out.Goals as goal
-
-pub returns : goal.returns
-returns g c =
-    record { routed = (c.deref.result.now, (c.route-lost.result, c.route-lost.ensures.routed)) }

@@ -1,4 +1,0 @@
-use Rattle.link_server.proofs.serving.begin.Given as goal
-
-abbrev pub ghosts-serve_life : goal.ghosts-serve_life
-ghosts-serve_life g a = record { made_name = a.made.name; made_parts = a.made.parts; taken_name = a.taken.name }

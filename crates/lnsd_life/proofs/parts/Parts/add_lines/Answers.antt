@@ -1,0 +1,25 @@
+use Rattle.std.proofs.Common.{◌+◌, ◌∷◌, ◌++◌, ◌∙◌, List, [], ap, length, append_assoc, refl}
+use Rattle.std.proofs.lemmas.List.{length_push}
+use Rattle.outbox.specs.declared.ends.Outlet.{Outlet}
+use Rattle.lnsd_life.proofs.Making.{rings_with_one_more}
+use Rattle.lnsd_life.proofs.parts.Parts.add_lines.Goals as goal
+
+-- one more ring, after those of the links
+pub loop-application-preserved : goal.loop-application-preserved
+loop-application-preserved g c =
+    let (count, (added, (stand, are))) = c.loop-application.invariant in
+    let ends = c.in_ok-outlet.ensures in
+    let outlet = c.in_ok-outlet.outlet in
+    let inlet = c.in_ok-outlet.inlet in
+    let inlets = c.loop-application.all.items in
+    let put = c.in_ok-push.ensures.items in
+    let pushed = c.in_ok-push-2.ensures.items in (
+      ap length pushed ∙ (length_push inlets inlet ∙ ap (λ n. n + 1) count),
+      (
+        added ++ outlet ∷ [],
+        (
+          put ∙ (ap (λ (outlets : List Outlet). outlets ++ outlet ∷ []) stand ∙ append_assoc c.args.self.now.outlets.items added (outlet ∷ [])),
+          rings_with_one_more 1024 added (added ++ outlet ∷ []) inlets c.push-in-loop-application.new.self.items outlet inlet are (ends.ends, (ends.outlet.0, (ends.inlet.0, ends.outlet.1))) refl pushed,
+        ),
+      ),
+    )

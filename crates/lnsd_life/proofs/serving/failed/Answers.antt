@@ -1,0 +1,14 @@
+use Rattle.std.proofs.Common.{[]}
+use Rattle.lnsd_life.proofs.Ending.{unbegun}
+use Rattle.lnsd_life.proofs.serving.failed.Goals as goal
+
+-- nothing has happened to the store
+pub returns : goal.returns
+returns g c =
+    record {
+      shares = tt {0};
+      healthy = tt {0};
+      committed = tt {0};
+      refused = unbegun g.D.Disk c.args.store c.args.fault c.requires;
+      lives = λ honest t number lives led. ([], led);
+    }

@@ -1,0 +1,28 @@
+use Rattle.std.proofs.Common.{◌≡◌, ◌+◌, IfErr, IfOk, OnOk, sym, subst}
+use Rattle.flusher.specs.Calls.{NoneFailed}
+use Rattle.store.specs.State.{store_state}
+use Rattle.lnsd_life.proofs.Ending.{ended_well, told_committed, told_refused}
+use Rattle.lnsd_life.specs.Served.{IsLedOn, IsRefused}
+use Rattle.lnsd_life.proofs.serving.serve_life.Goals as goal
+
+pub returns : goal.returns
+returns g c =
+    let HasNoneFailed = NoneFailed g.D.Disk.failures g.D.Disk.outlook c.args.store in
+    let ran = c.run-end.ensures in
+    let ended = c.served_life.ensures in
+    let healthy = subst (λ s. OnOk c.run-end.result.result (HasNoneFailed s)) (sym ended.store) ran.healthy in
+    record {
+      shares = ended.shares;
+      healthy = ended_well c.run-end.result.result c.served_life.result.result (HasNoneFailed c.served_life.result.store) ended.refused healthy;
+      committed =
+          told_committed c.run-end.result.result c.served_life.result.result c.args.store.seq c.served_life.result.store.seq
+          ended.refused ended.told
+          (subst (λ n. IfOk c.run-end.result.result (λ taken. c.served_life.result.store.seq + n ≡ c.args.store.seq + taken)) c.new-shared.ensures.taker
+          (subst (λ s. IfOk c.run-end.result.result (λ taken. s.seq + c.new-shared.result.1 ≡ c.args.store.seq + taken)) (sym ended.store) ran.committed));
+      refused =
+          told_refused g.D.Disk c.run-end.result.result c.served_life.result.result c.args.store c.served_life.result.store
+          ended.refused ended.told healthy
+          (subst (λ s. IfErr c.run-end.result.result (IsRefused g.D.Disk c.args.store s)) (sym ended.store) ran.refused);
+      lives = λ honest.
+          subst (λ s. IsLedOn (store_state g.D.Disk.state c.args.store) (store_state g.D.Disk.state s)) (sym ended.store) (ran.lives honest);
+    }

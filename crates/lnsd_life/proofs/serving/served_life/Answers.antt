@@ -1,0 +1,31 @@
+use Rattle.std.proofs.Common.{◌≡◌, ℕ, Result, IfOk, MatchResult, sum, sym, subst}
+use Rattle.lw_types.specs.declared.refusal.Refusal.{Refusal}
+use Rattle.lnsd_life.specs.Served.{IsUntold}
+use Rattle.lnsd_life.specs.declared.report.LifeReport.{LifeReport}
+use Rattle.lnsd_operator.specs.declared.fault.ServeFault.{ServeFault}
+use Rattle.lnsd_life.proofs.serving.served_life.Goals.{in-Ok, in-Err}
+use Rattle.lnsd_life.proofs.serving.served_life.Goals as goal
+
+-- what is known of a report
+abbrev HasSum : Result LifeReport ServeFault → Type 0
+HasSum r = IfOk r (λ report. sum report.shares.items ≡ report.made)
+
+pub returns-clause-shares : goal.returns-clause-shares
+returns-clause-shares g c =
+    elim c.match-result.branch [
+      | in-Ok w ↦ subst HasSum (sym w.result-is) w.report-result.ensures.sum
+      | in-Err w ↦ subst HasSum (sym w.result-is) (tt {0})
+    ]
+
+-- what is reported of how a life ended
+abbrev IsTold : Result ℕ Refusal → Result LifeReport ServeFault → Type 0
+IsTold ended result = IfOk ended (λ taken. MatchResult result (λ report. report.made ≡ taken) IsUntold)
+
+pub returns-clause-told : goal.returns-clause-told
+returns-clause-told g c =
+    elim c.match-result.branch [
+      | in-Ok w ↦
+          subst (IsTold c.args.end.result) (sym w.result-is)
+          (subst (λ ended. IsTold ended w.report-result.result) (sym w.in-Ok.is) w.report-result.ensures.told)
+      | in-Err w ↦ subst (λ ended. IsTold ended c.match-result.result) (sym w.in-Err.is) (tt {0})
+    ]

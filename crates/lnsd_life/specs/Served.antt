@@ -1,0 +1,71 @@
+-- How serving changes a store.
+use Rattle.std.specs.Prelude.{◌≡◌, ◌≤◌, ◌⊎◌, ◌+◌, ℕ, true, List, sum, Result, IfErr, IfOk, OnOk}
+use Rattle.disk.specs.declared.disk.Disk.{Ghosts}
+use Rattle.lw_types.specs.declared.refusal.Refusal.{Refusal}
+use Rattle.lw_types.specs.declared.refusal.Refusal.TheVariants.{Damaged, DeviceFailed, Failed}
+use Rattle.lw_types.specs.declared.refusal.Refusal.TheVariants.{OutOfMemory, OutOfStep}
+use Rattle.lnsd_life.specs.declared.report.LifeReport.{LifeReport}
+use Rattle.lnsd_operator.specs.declared.fault.ServeFault.{ServeFault}
+use Rattle.lnsd_operator.specs.declared.fault.ServeFault.TheVariants.{Listen, Refused}
+use Rattle.sessions.specs.Table.{TableState}
+use Rattle.store.specs.declared.areas.TheConstants.{LAST_GENERATION}
+use Rattle.store.specs.declared.store.Store.{Store}
+use Rattle.store.specs.State.{StoreState, store_state}
+use Rattle.flusher.specs.Calls.{LastFailed, NoneFailed}
+use Rattle.flusher.specs.Lived.{HaveLed}
+use Rattle.flusher.specs.Lives.{LifeEvent, Lives, lives_after_all}
+
+-- if some lives led a store to the first state, these lives with more events led it to the second
+abbrev pub IsLedOn : StoreState → StoreState → Type 0
+IsLedOn here there =
+    (t : TableState) (number : ℕ) (lives : Lives) → HaveLed lives t number here
+    → (events : List LifeEvent) × HaveLed (lives_after_all t lives events) t number there
+
+-- Why serving was refused, by the refusal. If a call of the disk failed, it was the last call.
+-- Otherwise no call failed, and memory ran out, a batch was out of step, the store had failed
+-- before, or its checkpoints have no further generation.
+abbrev pub IsRefused : {D : Type 0} (disk : Ghosts D) → Store D disk → Store D disk → Refusal
+    → Type 0
+IsRefused disk old new DeviceFailed = LastFailed disk.failures disk.outlook old new
+IsRefused disk old new OutOfMemory = NoneFailed disk.failures disk.outlook old new
+IsRefused disk old new OutOfStep = NoneFailed disk.failures disk.outlook old new
+IsRefused disk old new Failed =
+    NoneFailed disk.failures disk.outlook old new × (old.failed ≡ true)
+IsRefused disk old new Damaged =
+    NoneFailed disk.failures disk.outlook old new
+    × (LAST_GENERATION ≤ (store_state disk.state new).log.generation)
+IsRefused disk old new other = ⊥
+
+-- why a life has no report: links couldn't come in, or it was refused
+abbrev pub IsFaultOf : {D : Type 0} (disk : Ghosts D) → Store D disk → Store D disk → ServeFault
+    → Type 0
+IsFaultOf disk old new Listen = new ≡ old
+IsFaultOf disk old new (Refused refusal) = IsRefused disk old new refusal
+
+-- why a life that ended well gives no report: memory ran out, or the number decided isn't the
+-- number taken
+abbrev pub IsUntold : ServeFault → Type 0
+IsUntold fault = (fault ≡ Refused OutOfMemory) ⊎ (fault ≡ Refused OutOfStep)
+
+-- How a life whose threads ran leaves its store. If the life ended well, no call of the disk
+-- failed, and the store's number grew by as many decisions as were taken in it: `before` were taken
+-- when it began. Otherwise the refusal says why. The lives that led the store here go on.
+pub record IsRun {D : Type 0} (disk : Ghosts D) (old : Store D disk) (before : ℕ)
+    (result : Result ℕ Refusal) (new : Store D disk) : Type 0 where
+  pub healthy : OnOk result (NoneFailed disk.failures disk.outlook old new)
+  pub committed : IfOk result (λ taken. (store_state disk.state new).seq + before
+      ≡ (store_state disk.state old).seq + taken)
+  pub refused : IfErr result (IsRefused disk old new)
+  pub lives : disk.honest → IsLedOn (store_state disk.state old) (store_state disk.state new)
+
+-- How serving leaves a store, and what it reports. If there is a report, its shares sum to the
+-- number of decisions made, by which the store's number grew, and no call of the disk failed.
+-- Otherwise the fault says why. The lives that led the store here go on.
+pub record IsServed {D : Type 0} (disk : Ghosts D) (old : Store D disk)
+    (result : Result LifeReport ServeFault) (new : Store D disk) : Type 0 where
+  pub shares : IfOk result (λ report. sum report.shares.items ≡ report.made)
+  pub healthy : OnOk result (NoneFailed disk.failures disk.outlook old new)
+  pub committed : IfOk result (λ report. (store_state disk.state new).seq
+      ≡ (store_state disk.state old).seq + report.made)
+  pub refused : IfErr result (IsFaultOf disk old new)
+  pub lives : disk.honest → IsLedOn (store_state disk.state old) (store_state disk.state new)

@@ -1,0 +1,186 @@
+// The flusher, which commits what was decided and releases its effects.
+ghost use Rattle.std.specs.Prelude.{◌≡◌, ◌+◌, ℕ, IsTrue, IfErr, IfOk, OnOk, false, slice_index_or};
+ghost use Rattle.lnsd_links.specs.declared.names.Directory.{Directory};
+ghost use Rattle.flusher.specs.Calls.{NoneFailed};
+ghost use Rattle.flusher.specs.Released.{effects_of_all};
+ghost use Rattle.lnsd_life.specs.Marks.{AreLinksMarked, with_link};
+ghost use Rattle.lnsd_life.specs.Served.{IsLedOn, IsRefused};
+ghost use Rattle.lnsd_links.specs.Routing.{IsRouted};
+ghost use Rattle.store.specs.State.{store_state};
+
+use disk::Disk;
+use flusher::{Drawn, Released, serve};
+use gateway_wire::Recipient;
+use lnsd_links::{APPLICATIONS, Directory, LifeStage, MOST_PLACES, route};
+use lnsd_operator::{DiskTimes, Sight};
+use lnsd_threads::LiveServer;
+use lw_types::Refusal;
+use outbox::Outlet;
+use session_core::{Books, Taker};
+use std::alloc::Global;
+use std::sync::Wait;
+use store::Store;
+
+// The most rings.
+const MOST_RINGS: usize = MOST_PLACES as usize + APPLICATIONS;
+
+/// Commits decisions and sends out their effects, until nothing is decided any more and everything
+/// is committed. Then announces to the senders that nothing more comes, and returns how many
+/// decisions were taken. A refusal closes the links, and what waits for them is lost. If it ends
+/// well, no call of the disk failed, and the store's number grew by the number of decisions taken.
+pub(crate) fn flush<B: Books, R: Wait, D: Disk>(
+    rt: &R,
+    alloc: Global,
+    server: &LiveServer<B>,
+    times: Option<&DiskTimes>,
+    store: &mut Store<D>,
+    taker: Taker<B>,
+    outlets: Vec<Outlet>,
+) -> Result<u64, Refusal>
+    ensures healthy { OnOk result (NoneFailed D.failures D.outlook store.old store.new) }
+    ensures committed { IfOk result (λ taken. (store_state D.state store.new).seq + taker
+        ≡ (store_state D.state store.old).seq + taken) }
+    ensures refused { IfErr result (IsRefused D.Disk store.old store.new) }
+    ensures lives { D.honest
+        → IsLedOn (store_state D.state store.old) (store_state D.state store.new) }
+{
+    let mut outlets = outlets;
+    let mut feed = Drawn::new(rt, &server.sessions, taker);
+    let mut is_ticked = false;
+    let served = {
+        let mut out = |released: Vec<Released>| {
+            let_out(rt, alloc, server, outlets.as_mut_slice(), released);
+            tell_times(rt, server, times);
+        };
+        // a checkpoint may be written with no batch after it
+        let mut done = || {
+            tell_times(rt, server, times);
+            is_done(rt, server, &mut is_ticked)
+        };
+        serve(rt, store, &mut feed, alloc, &mut out, &mut done)
+    };
+    if served.is_err() {
+        server.stop(rt);
+    }
+    finish(outlets);
+    server.ring_senders();
+    served?;
+    Ok(feed.share())
+}
+
+// Ends these rings: nothing more comes through them.
+fn finish(outlets: Vec<Outlet>) {
+    for outlet in outlets {
+        let _ = outlet.finish();
+    }
+}
+
+// Puts effects into the rings. The bell of each link that gets something rings once. An application
+// without a link finds its effects when it comes.
+fn let_out<B: Books, R: Wait>(
+    rt: &R,
+    alloc: Global,
+    server: &LiveServer<B>,
+    outlets: &mut [Outlet],
+    released: Vec<Released>,
+)
+    ensures routed { (directory : Directory) × ((lost : ℕ)
+        × IsRouted directory (effects_of_all released.items) lost outlets.old outlets.new) }
+{
+    server.signals.counts.commits.add(1);
+    if server.is_watched() {
+        tell_joins(rt, server, released.as_slice());
+    }
+    let mut marks = [false; MOST_RINGS];
+    let mut missed = Vec::new(alloc);
+    let directory = server.directory.lock(rt);
+    let lost = route(&directory, outlets, released, &mut marks, &mut missed);
+    mark_links(&directory, server.links.len(), &mut marks);
+    drop(directory);
+    server.signals.counts.dropped.add(lost as u64);
+    tell_missed(rt, server, missed);
+    ring_links(server, &marks);
+}
+
+// Sends the operators who watch the names whose effects were lost.
+fn tell_missed<B: Books, R: Wait>(rt: &R, server: &LiveServer<B>, missed: Vec<Recipient>) {
+    for name in missed {
+        server.tell(rt, Sight::Dropped(name, 1));
+    }
+}
+
+fn ring_links<B: Books>(server: &LiveServer<B>, marks: &[bool]) {
+    for (link, is_marked) in server.links.iter().zip(marks) {
+        if *is_marked {
+            link.bell.unpark();
+        }
+    }
+}
+
+// Sends the operators who watch what the disk did meanwhile.
+fn tell_times<B: Books, R: Wait>(rt: &R, server: &LiveServer<B>, times: Option<&DiskTimes>) {
+    let Some(times) = times else {
+        return;
+    };
+    if times.take_checkpoints() > 0 {
+        server.tell(rt, Sight::Checkpoint);
+    }
+    if let Some(millis) = times.take_slow_sync() {
+        server.tell(rt, Sight::SlowSync(millis));
+    }
+}
+
+// Marks the links of applications whose own rings are marked. These rings come after those of the
+// links, which are this number.
+fn mark_links(directory: &Directory, links: usize, marks: &mut [bool])
+    ensures { AreLinksMarked directory.now links marks.old marks.new }
+{
+    let applications = directory.applications();
+    for (application, link) in applications.iter().enumerate() {
+        mark_link(*link, links.saturating_add(application), marks);
+    }
+}
+
+// Marks the link of an application, if it has one, when its own ring is marked.
+fn mark_link(link: Option<usize>, ring: usize, marks: &mut [bool])
+    ensures { marks.new ≡ with_link link ring marks.old }
+{
+    let is_rung = is_marked(marks, ring);
+    if let Some(link) = link
+        && is_rung
+        && link < marks.len()
+    {
+        marks[link] = true;
+    }
+}
+
+fn is_marked(marks: &[bool], place: usize) -> bool
+    ensures { result ≡ slice_index_or marks.now place false }
+{
+    place < marks.len() && marks[place]
+}
+
+// Sends the operators who watch the joins that were granted.
+fn tell_joins<B: Books, R: Wait>(rt: &R, server: &LiveServer<B>, released: &[Released]) {
+    for one in released {
+        if let Some(sight) = Sight::of_effect(one.effect()) {
+            server.tell(rt, sight);
+        }
+    }
+}
+
+// Whether nothing is left, after an empty batch. The last tick may have been made after that batch,
+// so one more batch is asked for after the tick is seen. Otherwise waits for a decision.
+fn is_done<B: Books, R: Wait>(rt: &R, server: &LiveServer<B>, is_ticked: &mut bool) -> bool
+    ensures done { result ≡ is_ticked.old }
+    ensures kept { IsTrue is_ticked.old → IsTrue is_ticked.new }
+{
+    if *is_ticked {
+        return true;
+    }
+    if !server.signals.has_reached(LifeStage::Ticked) {
+        server.signals.wait_for_decisions(rt);
+    }
+    *is_ticked = server.signals.has_reached(LifeStage::Ticked);
+    false
+}

@@ -1,0 +1,426 @@
+// One life of a server.
+ghost use Rattle.std.specs.Prelude.{◌≡◌, ◌≢◌, ◌≤◌, ◌+◌, length, sum, Err, IfErr, IfOk};
+ghost use Rattle.std.specs.Prelude.{cond, map, MatchResult, None, Some};
+ghost use Rattle.lw_types.specs.declared.refusal.Refusal.TheVariants.{OutOfMemory, OutOfStep};
+ghost use Rattle.lnsd_operator.specs.declared.fault.ServeFault.TheVariants.{Refused};
+ghost use Rattle.lnsd_operator.specs.Faults.{IsOfBeginning};
+ghost use Rattle.lnsd_life.specs.Served.{IsServed, IsUntold};
+ghost use Rattle.session_core.specs.Core.{new_core};
+ghost use Rattle.store.specs.State.{store_state};
+
+use crate::parts::Parts;
+use crate::running::{LifeEnd, run};
+use crate::{LifeReport, ServedLife};
+use disk::Disk;
+use lnsd_links::{
+    Directory, Door, Entrance, Link, LinkCount, PlaceCount, Policy, Signals, WaitingLines, accept,
+    empty_places,
+};
+use lnsd_operator::{ControlSocket, Counts, DiskTimes, ServeFault};
+use lnsd_threads::{Context, Gate, LifeClock, LiveServer, NobodyTold, OnBegun};
+use lw_types::Refusal;
+use outbox::Inlet;
+use session_core::{Books, Core, Seat, Shared};
+use std::alloc::Global;
+use std::marker::Brand;
+use std::net::TcpListener;
+use std::os::unix::net::UnixListener;
+use std::sync::ledger::Blank;
+use std::sync::{Mutex, Wait};
+use std::thread::Threads;
+use store::Store;
+
+/// Accepts this number of links, closes the listener, and serves the links until all their inputs
+/// have ended. What they send is decided and committed to the store, and released effects are sent
+/// on them. Returns the store, and the result of the life.
+///
+/// Each link has a worker, which passes the gate before each of its calls, and a sender, with a
+/// ring of 1,024 effects and one of 1,024 refusals. A link is at fault, and read no further, after
+/// bytes that are no message, a length above 700, or an end inside a frame. The same holds after a
+/// greeting with a name that a link already has, or a greeting of a gateway when 64 have links. A
+/// link is also read no further if memory for its messages runs out, which doesn't count as a
+/// fault. Its sender goes on, and it keeps its name. An effect is dropped if its gateway or
+/// application has no link, or if the link's ring is full. A refusal that finds its ring full is
+/// dropped too, but not counted.
+///
+/// At the end a last tick, 200 ms past the effective time, closes the windows that are open. Then
+/// what is left is committed, and each sender writes what waits. A peer that then takes nothing for
+/// eight seconds is given up, and what is left for it is dropped. A store that fails ends the life
+/// at once: the links are closed, and what waits for them is lost. In each case every thread is
+/// joined.
+///
+/// A worker waits in its read. A sender and the flusher wait for a bell. The closer waits until the
+/// oldest window is due, and for at least 2 ms: frames that come close together are committed
+/// together, requests at once. Threads poll in two cases only: a sender whose peer takes nothing
+/// tries again each second, and the closer tries again when memory runs out. The call need not
+/// return, since an input may never end.
+///
+/// The contract says only this: the shares sum to the number of decisions made. If there is a
+/// report, the store's number grew by this number, and no call of the disk failed. If there is
+/// none, it says why. And the store was led on from where it was. The calls that it makes have
+/// proofs of their own; the rest is shown by tests on sockets.
+pub fn serve_links<
+    'x,
+    R: Threads + Wait + Sync,
+    D: Disk + Drop,
+    G: Gate + Sync,
+    C: LifeClock + Sync,
+>(
+    rt: &'x R,
+    alloc: Global,
+    store: Store<D>,
+    listener: TcpListener,
+    links: LinkCount,
+    gate: &'x G,
+    clock: &'x C,
+) -> ServedLife<D>
+    ensures { IsServed D.Disk store result.result result.store }
+{
+    let streams = match accept(alloc, listener, links) {
+        Ok(streams) => streams,
+        Err(fault) => return failed(alloc, store, fault),
+    };
+    let count = streams.len() as u64;
+    let context = Context {
+        rt,
+        alloc,
+        gate,
+        clock,
+        times: None,
+    };
+    let beginning = Beginning {
+        entrance: Entrance::Filled(streams),
+        policy: ONCE,
+        control: None,
+    };
+    begin(&context, store, count, beginning, &mut NobodyTold)
+}
+
+/// Serves links that come in through a listener, as many at a time as there are places, until the
+/// life ends. What they send is decided and committed to the store, and released effects are sent
+/// on them. Returns the store, and the result of the life.
+///
+/// A link that has a place is served as by [`serve_links`], with these differences. It has to greet
+/// within ten seconds; otherwise it is closed and counted. It ends when its input ends, or by a
+/// fault. Then its name and its place are free; its sender writes what waits, and gives up a peer
+/// that takes nothing for eight seconds. **A greeting with a name that already has a link takes the
+/// name over**: the older link is closed at once, and what waits for it is dropped and counted. An
+/// effect for a gateway without a link is also dropped and counted. What leaves on a link is for
+/// the name of that link, not for one that had its place before. A link that comes while all places
+/// are taken waits for one.
+///
+/// Lines for an application wait while it has no link, at most 1,024. They go on in order on its
+/// next link, except for those that were being written when a link failed. What waits for an
+/// application that has no link at the end is dropped and counted.
+///
+/// Operators come in through a listener of their own, eight at a time, and send one [`Order`] each.
+/// The connection of an operator who sends nothing for two seconds is closed. What operators see of
+/// the disk is in `times`.
+///
+/// `on_begun` is called when every thread of the life runs. If a thread can't be started, it isn't
+/// called, and the life is refused with `OutOfMemory`.
+pub fn serve_on<
+    'x,
+    R: Threads + Wait + Sync,
+    D: Disk + Drop,
+    G: Gate + Sync,
+    C: LifeClock + Sync,
+    N: OnBegun,
+>(
+    rt: &'x R,
+    alloc: Global,
+    store: Store<D>,
+    listener: TcpListener,
+    control: UnixListener,
+    count: PlaceCount,
+    gate: &'x G,
+    clock: &'x C,
+    times: &'x DiskTimes,
+    on_begun: &mut N,
+) -> ServedLife<D>
+    ensures { IsServed D.Disk store result.result result.store }
+{
+    let Ok(door) = Door::new(listener) else {
+        return failed(alloc, store, ServeFault::Listen);
+    };
+    let control = match ControlSocket::new(alloc, control, store.table().slots()) {
+        Ok(control) => control,
+        Err(fault) => return failed(alloc, store, fault),
+    };
+    let context = Context {
+        rt,
+        alloc,
+        gate,
+        clock,
+        times: Some(times),
+    };
+    let beginning = Beginning {
+        entrance: Entrance::Open(door),
+        policy: ANEW,
+        control: Some(control),
+    };
+    begin(&context, store, count.get(), beginning, on_begun)
+}
+
+// A life whose links come before it begins, and stay.
+const ONCE: Policy = Policy {
+    greeting_wait: None,
+    takes_over: false,
+    keeps_links: true,
+    lines_wait: false,
+};
+
+// A life whose links come and go.
+const ANEW: Policy = Policy {
+    greeting_wait: Some(10_000),
+    takes_over: true,
+    keeps_links: false,
+    lines_wait: true,
+};
+
+// What a life begins with: where its links and its operators come from, and what it does with
+// its links.
+#[derive(Drop)]
+struct Beginning {
+    entrance: Entrance,
+    policy: Policy,
+    control: Option<ControlSocket>,
+}
+
+// Begins a life with this number of places.
+fn begin<R: Threads + Wait + Sync, D: Disk + Drop, G: Gate + Sync, C: LifeClock + Sync, N: OnBegun>(
+    context: &Context<'_, R, G, C>,
+    store: Store<D>,
+    count: u64,
+    beginning: Beginning,
+    on_begun: &mut N,
+) -> ServedLife<D>
+    requires { count ≤ 96 }
+    ensures { IsServed D.Disk store result.result result.store }
+{
+    let core = match Core::new(context.alloc, store.table(), store.seq()) {
+        Ok(core) => core,
+        Err(refusal) => return failed(context.alloc, store, ServeFault::Refused(refusal)),
+    };
+    let links = match empty_places(context.alloc, count) {
+        Ok(links) => links,
+        Err(refusal) => return failed(context.alloc, store, ServeFault::Refused(refusal)),
+    };
+    let seats = links.len() as u64 + 1;
+    let places = Places { links, beginning };
+    let (made, taken) = (Blank::new(seats), Blank::new(1));
+    serve_life::<Brand, R, D, G, C, N>(context, store, places, core, made, taken, on_begun)
+}
+
+// The result of a life that isn't begun.
+fn failed<D: Disk>(alloc: Global, store: Store<D>, fault: ServeFault) -> ServedLife<D>
+    requires { IsOfBeginning fault }
+    ensures { IsServed D.Disk store result.result result.store }
+{
+    ServedLife {
+        store,
+        result: Err(fault),
+        waiting: Vec::new(alloc),
+    }
+}
+
+// The places of a life, and what comes into it.
+#[derive(Drop)]
+struct Places {
+    links: Vec<Link>,
+    beginning: Beginning,
+    ghost few: { length links.items ≤ 96 },
+}
+
+fn serve_life<
+    B: Books + Send + Sync,
+    R: Threads + Wait + Sync,
+    D: Disk + Drop,
+    G: Gate + Sync,
+    C: LifeClock + Sync,
+    N: OnBegun,
+>(
+    context: &Context<'_, R, G, C>,
+    store: Store<D>,
+    places: Places,
+    core: Core,
+    made: Blank,
+    taken: Blank,
+    on_begun: &mut N,
+) -> ServedLife<D>
+    requires made { (made.name ≡ B.made_name) × (made.parts ≡ B.made_parts)
+        × (made.parts ≡ length places.links.items + 1) }
+    requires taken { (taken.name ≡ B.taken_name) × (taken.parts ≡ 1) }
+    requires core { core
+        ≡ new_core (store_state D.state store).table (store_state D.state store).seq }
+    ensures { IsServed D.Disk store result.result result.store }
+{
+    let all = places.links.len() as u64 + 1;
+    let (mut shared, taker) = Shared::<B>::new(core, all, made, taken);
+    if places.beginning.control.is_some() {
+        shared.observe();
+    }
+    let Equipment {
+        parts,
+        directory,
+        lines,
+    } = match Equipment::new(context.alloc, &mut shared, &places) {
+        Ok(equipment) => equipment,
+        Err(refusal) => return failed(context.alloc, store, ServeFault::Refused(refusal)),
+    };
+    let Places { links, beginning } = places;
+    let Beginning {
+        entrance,
+        policy,
+        control,
+    } = beginning;
+    let server = LiveServer {
+        signals: Signals::new(links.len() as u64),
+        links,
+        entrance,
+        policy,
+        control,
+        sessions: Mutex::new(shared),
+        directory: Mutex::new(directory),
+        lines,
+    };
+    let end = run(&*context, &server, store, taker, parts, on_begun);
+    served_life(context.alloc, server, all, end)
+}
+
+// The result of a life that has ended.
+fn served_life<B: Books + Send + Sync, D: Disk + Drop>(
+    alloc: Global,
+    server: LiveServer<B>,
+    all: u64,
+    end: LifeEnd<D, B>,
+) -> ServedLife<D>
+    requires { all ≡ B.made_parts }
+    ensures store { result.store ≡ end.store }
+    ensures shares { IfOk result.result (λ report. sum report.shares.items ≡ report.made) }
+    ensures told { IfOk end.result (λ taken.
+        MatchResult result.result (λ report. report.made ≡ taken) IsUntold) }
+    ensures refused { IfErr end.result (λ refusal. result.result ≡ Err (Refused refusal)) }
+{
+    let LiveServer {
+        sessions,
+        signals,
+        control,
+        ..
+    } = server;
+    let LifeEnd {
+        store,
+        result,
+        seats,
+    } = end;
+    let waiting = match control {
+        Some(control) => control.into_waiting(),
+        None => Vec::new(alloc),
+    };
+    let result = match result {
+        Ok(taken) => report(
+            alloc,
+            sessions.into_inner(),
+            &signals.counts,
+            all,
+            seats,
+            taken,
+        ),
+        Err(refusal) => Err(ServeFault::Refused(refusal)),
+    };
+    ServedLife {
+        store,
+        result,
+        waiting,
+    }
+}
+
+// What a life takes memory for before it begins.
+struct Equipment<B: Books> {
+    parts: Parts<B>,
+    directory: Directory,
+    lines: Vec<WaitingLines>,
+}
+
+impl<B: Books> Equipment<B> {
+    // No links yet. If lines wait, applications have rings of their own, after those of the links.
+    fn new(alloc: Global, shared: &mut Shared<B>, places: &Places) -> Result<Self, Refusal>
+        requires { shared.old.left ≡ length places.now.links.items + 1 }
+        ensures rings { IfOk result (λ equipment. equipment.directory.first_ring
+            ≡ cond places.now.beginning.policy.lines_wait (Some (length places.now.links.items)) None) }
+        ensures refused { IfErr result (λ e. e ≡ OutOfMemory) }
+    {
+        let links = places.links.len();
+        let mut parts = Parts::new(alloc, shared, links)?;
+        let (first_ring, lines) = if places.beginning.policy.lines_wait {
+            let inlets = parts.add_lines(alloc)?;
+            (Some(links as u16), waiting_lines(alloc, inlets)?)
+        } else {
+            (None, Vec::new(alloc))
+        };
+        Ok(Equipment {
+            parts,
+            directory: Directory::new(alloc, first_ring)?,
+            lines,
+        })
+    }
+}
+
+// Each inlet behind a lock, in the same order. Refused with `OutOfMemory` if memory runs out.
+fn waiting_lines(alloc: Global, inlets: Vec<Inlet>) -> Result<Vec<WaitingLines>, Refusal>
+    ensures lines { IfOk result (λ lines. length lines.items ≡ length inlets.items) }
+    ensures refused { IfErr result (λ e. e ≡ OutOfMemory) }
+{
+    let mut lines = Vec::new(alloc);
+    for inlet in inlets {
+        lines.push(Mutex::new(Some(inlet)))?;
+    }
+    Ok(lines)
+}
+
+// The report. If a seat didn't come back, its thread was never started, since memory ran out. If
+// not all decisions of a life were taken, there is no report, but `OutOfStep`.
+fn report<B: Books>(
+    alloc: Global,
+    shared: Shared<B>,
+    counts: &Counts,
+    all: u64,
+    seats: Vec<Seat<B>>,
+    taken: u64,
+) -> Result<LifeReport, ServeFault>
+    requires { all ≡ B.made_parts }
+    ensures told { MatchResult result (λ report. report.made ≡ taken) IsUntold }
+    ensures out_of_step { result ≡ Err (Refused OutOfStep)
+        → shared.core.decisions.made ≢ taken }
+    ensures sum { IfOk result (λ report. sum report.shares.items ≡ report.made) }
+    ensures shares { IfOk result (λ report. report.shares.items ≡ map (λ s. s.made) seats.items) }
+{
+    let Ok(shares) = shares_of(alloc, &seats) else {
+        return Err(ServeFault::Refused(Refusal::OutOfMemory));
+    };
+    let Some(made) = shared.settle(all, seats) else {
+        return Err(ServeFault::Refused(Refusal::OutOfMemory));
+    };
+    if made != taken {
+        return Err(ServeFault::Refused(Refusal::OutOfStep));
+    }
+    Ok(LifeReport {
+        dropped: counts.dropped.get(),
+        faulted: counts.faulted.get(),
+        taken_over: counts.taken_over.get(),
+        silent: counts.silent.get(),
+        made,
+        shares,
+    })
+}
+
+fn shares_of<B: Books>(alloc: Global, seats: &Vec<Seat<B>>) -> Result<Vec<u64>, Refusal>
+    ensures { MatchResult result (λ shares. shares.items ≡ map (λ s. s.made) seats.now.items)
+        (λ e. e ≡ OutOfMemory) }
+{
+    let mut shares = Vec::new(alloc);
+    for seat in seats {
+        shares.push(seat.share())?;
+    }
+    Ok(shares)
+}

@@ -1,0 +1,6 @@
+mod Answered
+mod Found
+mod Links
+mod Routed
+mod Together
+mod Written

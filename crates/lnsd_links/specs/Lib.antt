@@ -1,0 +1,3 @@
+pub mod Linked
+pub mod Routing
+pub mod Sending

@@ -1,0 +1,28 @@
+//! The links of a life: where they come from, their places and names, what their senders write, the
+//! rings through which effects come, and the signals between the threads.
+#![tactic(auto)]
+
+mod door;
+mod gathering;
+pub mod laws;
+mod link;
+mod names;
+mod outgoing;
+mod policy;
+mod rings;
+mod routing;
+mod signals;
+mod stacks;
+mod writing;
+
+pub use door::{Door, Entrance};
+pub use gathering::drop_all;
+pub use link::{Link, LinkCount, MOST_PLACES, PlaceCount, accept, empty_places, set_options};
+pub use names::{APPLICATIONS, Directory, Full, HeldName, LeftName, LinkedGateway, MOST_GATEWAYS};
+pub use outgoing::Outgoing;
+pub use policy::Policy;
+pub use rings::{PLACES, WaitingLines};
+pub use routing::route;
+pub use signals::{Ending, LifeStage, Signals};
+pub use stacks::STACK;
+pub use writing::{Call, HostSender, Sender, Spare, is_passing};

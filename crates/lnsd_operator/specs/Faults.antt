@@ -1,0 +1,10 @@
+-- Why a life doesn't begin.
+use Rattle.std.specs.Prelude.{◌≡◌, ⊤}
+use Rattle.lw_types.specs.declared.refusal.Refusal.TheVariants.{OutOfMemory}
+use Rattle.lnsd_operator.specs.declared.fault.ServeFault.{ServeFault}
+use Rattle.lnsd_operator.specs.declared.fault.ServeFault.TheVariants.{Listen, Refused}
+
+-- links couldn't come in, or memory ran out
+abbrev pub IsOfBeginning : ServeFault → Type 0
+IsOfBeginning Listen = ⊤
+IsOfBeginning (Refused refusal) = refusal ≡ OutOfMemory

@@ -1,0 +1,4 @@
+pub mod Counted
+pub mod Faults
+pub mod Named
+pub mod Orders

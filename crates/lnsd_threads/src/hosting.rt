@@ -1,0 +1,327 @@
+// The worker of a place, which takes one link after another.
+ghost use Rattle.std.specs.Prelude.{◌≡◌, ◌-◌, IfSome, IsTrue, None, Some, max, option_map};
+ghost use Rattle.lnsd_links.specs.Linked.{IsHeld};
+ghost use Rattle.lnsd_threads.specs.Hearing.{CameWithGreeting};
+ghost use Rattle.lnsd_threads.specs.Named.{IsFarewell, peer_name};
+
+use crate::lasting::Lasting;
+use crate::reading::{Incoming, PIECE, Worker, read_some, recipient_of};
+use crate::threads::start;
+use crate::{Gate, LifeClock, moved_on};
+use gateway_wire::Recipient;
+use link_messages::{Fed, Feeder};
+use lnsd_links::{
+    Call, Directory, Ending, HeldName, HostSender, LeftName, PLACES, drop_all, set_options,
+};
+use lnsd_operator::Sight;
+use lw_types::Refusal;
+use rtrb::{Consumer, RingBuffer};
+use session_core::{Books, Moment, Seat};
+use std::net::TcpStream;
+use std::sync::Wait;
+use std::thread;
+use std::thread::{Scope, Threads};
+use std::time::Duration;
+
+// How long a read waits after that time is over, in milliseconds: the shortest time that a read may
+// wait.
+const SHORTEST_WAIT: u64 = 1;
+
+// The pause after a failed accept, in seconds. An accept fails if the process has no descriptors
+// left, or no memory.
+const ACCEPT_PAUSE: u64 = 1;
+
+/// The name that greeted on a link, and what came with the greeting.
+#[derive(Drop)]
+struct Greeted {
+    name: Recipient,
+    fed: Fed,
+}
+
+/// What happened to a link's name at the end of the link's input: it was left; or it stays, for
+/// what is still to be sent, since the life ends or keeps its links.
+#[derive(Clone, Copy)]
+enum Farewell {
+    Left(LeftName),
+    Kept(Ending),
+    Stays(Lasting),
+}
+
+impl<'x, B: Books, R: Threads + Wait + Sync, G: Gate, C: LifeClock> Worker<'x, B, R, G, C> {
+    /// Serves each link of its place to its end, until the life ends or no other link comes.
+    /// Returns the seat.
+    pub fn run(self) -> Seat<B> {
+        let mut worker = self;
+        let (rt, server) = (worker.context.rt, worker.server);
+        for _ in rt.forever() {
+            let next = server.entrance.next(rt, worker.number);
+            if server.signals.is_ending() {
+                break;
+            }
+            match next {
+                Some(stream) => worker.serve(stream),
+                None if server.entrance.is_open() => worker.pause(),
+                None => break,
+            }
+        }
+        worker.end_input();
+        worker.seat
+    }
+
+    fn pause(&self) {
+        let pause = Duration::from_secs(ACCEPT_PAUSE);
+        self.link.bell.park_timeout(self.context.rt, pause);
+    }
+
+    // Register the link before serving it, so that shutdown can close it. Shutdown sets its flag
+    // before it closes links, so check the flag after registering. A link that can't be registered
+    // isn't served.
+    fn serve(&mut self, stream: TcpStream) {
+        let Ok(shown) = stream.try_clone() else {
+            return;
+        };
+        set_options(&stream);
+        let link = self.link;
+        let rt = self.context.rt;
+        let signals = &self.server.signals;
+        link.show(rt, shown);
+        signals.count_linked();
+        if !signals.is_ending() {
+            self.welcome(stream);
+        }
+        signals.count_unlinked();
+        if !self.server.policy.keeps_links {
+            link.hide(rt);
+        }
+    }
+
+    fn welcome(&mut self, stream: TcpStream) {
+        let context = self.context;
+        self.feeder = Feeder::new(context.alloc);
+        let Some(greeted) = self.hear_greeting(&stream) else {
+            return;
+        };
+        // each link has its own ring of refusals, so that no refusal goes to the next link; if
+        // there is no memory for the ring, an older link of this name stays
+        let Ok((refused, refusals)) = RingBuffer::new(context.alloc, PLACES) else {
+            return;
+        };
+        let name = greeted.name;
+        if let Some(held) = self.take_over(&name) {
+            self.refusals = refused;
+            let _ = self.converse(stream, greeted, refusals, held);
+            self.drop_rest(name);
+        }
+    }
+
+    fn converse(
+        &mut self,
+        stream: TcpStream,
+        greeted: Greeted,
+        refusals: Consumer<Refusal>,
+        held: HeldName,
+    ) -> Farewell
+        ensures { IsFarewell held result }
+    {
+        let Greeted { name, fed } = greeted;
+        let context = self.context;
+        let call = Call { stream, name };
+        let worker = &mut *self;
+        thread::scope(
+            thread::scope_env(),
+            context.rt,
+            |scope|
+                ensures { IsFarewell held result }
+            { hold(scope, worker, &call, fed, refusals, held) },
+        )
+    }
+
+    // Drops what was for the link that has ended: it is of no use to the next one.
+    fn drop_rest(&self, name: Recipient) {
+        let rt = self.context.rt;
+        let mut lost = 0;
+        if let Some(spare) = self.link.spare.lock(rt).as_mut() {
+            lost = drop_all(&mut spare.inlet);
+        }
+        if lost > 0 {
+            self.server.signals.counts.dropped.add(lost);
+            self.server.tell(rt, Sight::Dropped(name, lost));
+        }
+    }
+}
+
+// Gives a link a sender while it is read, and until what waits for it is written.
+fn hold<'s, 'x: 's, E, B: Books, R: Threads + Wait + Sync, G: Gate, C: LifeClock>(
+    scope: &Scope<'s, E>,
+    worker: &mut Worker<'x, B, R, G, C>,
+    call: &'s Call,
+    fed: Fed,
+    refusals: Consumer<Refusal>,
+    held: HeldName,
+) -> Farewell
+    ensures { IsFarewell held result }
+{
+    let context = worker.context;
+    let sender = HostSender {
+        rt: context.rt,
+        alloc: context.alloc,
+        signals: &worker.server.signals,
+        watch: worker.server.watch(),
+        lines: worker.server.lines_of(&call.name),
+        links: worker.server.links.as_slice(),
+        link: worker.link,
+        call,
+    };
+    let name = format!(in context.alloc; "link-{number}-out", number = worker.number);
+    let is_sent = start(scope, name, move || sender.run(refusals)).is_some();
+    if is_sent && worker.hear_all(fed) {
+        worker.read(&call.stream);
+    }
+    worker.end_link(held, is_sent)
+}
+
+// Gives a link a name: one that another link has only if names are taken over. Returns the name
+// that the link holds then, and the link that had it.
+fn named(
+    directory: &mut Directory,
+    name: &Recipient,
+    link: usize,
+    takes_over: bool,
+) -> Option<(HeldName, Option<usize>)>
+    ensures { IfSome result (λ named. IsHeld name.now link named.0) }
+{
+    if takes_over {
+        return directory.take_over(name, link).ok();
+    }
+    match directory.greet(name, link) {
+        Some(held) => Some((held, None)),
+        None => None,
+    }
+}
+
+// How long a read waits until this moment, in milliseconds. After this moment a read still takes
+// what has come: the link may have greeted in time while the process was stopped.
+fn wait_until(now: Moment, until: Moment) -> u64
+    ensures { result ≡ max (until - now) 1 }
+{
+    until.get().saturating_sub(now.get()).max(SHORTEST_WAIT)
+}
+
+impl<'x, B: Books, R: Wait, G: Gate, C: LifeClock> Worker<'x, B, R, G, C> {
+    // Reads until the peer has greeted. `None` if nothing more has come when its time is over, if
+    // it sends something else, or if it has gone.
+    fn hear_greeting(&mut self, stream: &TcpStream) -> Option<Greeted>
+        ensures named { IfSome result
+            (λ greeted. option_map peer_name self.new.feeder.peer ≡ Some greeted.name) }
+        ensures fed { self.old.feeder.peer ≡ None → IfSome result
+            (λ greeted. CameWithGreeting greeted.fed.messages.items greeted.fed.fault
+            self.new.feeder) }
+        ensures same { self.new ≡ record self.old { feeder = self.new.feeder } }
+    {
+        let until = self.greeting_end();
+        let mut buffer = [0u8; PIECE];
+        for _ in self.context.rt.forever() {
+            let incoming = if self.limit_wait(stream, &until) {
+                read_some(stream, &mut buffer)
+            } else {
+                Incoming::Late
+            };
+            match incoming {
+                Incoming::Nothing => {}
+                Incoming::Late => {
+                    self.server.signals.counts.silent.add(1);
+                    self.server.tell(self.context.rt, Sight::Silent);
+                    break;
+                }
+                Incoming::End => {
+                    self.end();
+                    break;
+                }
+                Incoming::Bytes(n) => {
+                    let piece = buffer.get(..n).unwrap_or(&[]);
+                    let Ok(fed) = self.feeder.feed(piece) else {
+                        break;
+                    };
+                    if let Some(peer) = self.feeder.peer() {
+                        let _ = stream.set_read_timeout(None);
+                        let name = recipient_of(&peer);
+                        return Some(Greeted { name, fed });
+                    }
+                    if fed.fault.is_some() {
+                        self.count_fault();
+                        break;
+                    }
+                }
+            }
+        }
+        None
+    }
+
+    // Until when a link has to greet that comes now, if its time is limited.
+    fn greeting_end(&self) -> Option<Moment> {
+        let wait = self.server.policy.greeting_wait?;
+        Some(moved_on(self.context.clock.now(), wait))
+    }
+
+    // Limits how long reads wait, up to this moment, if there is one. Returns whether that can be
+    // done.
+    fn limit_wait(&self, stream: &TcpStream, until: &Option<Moment>) -> bool {
+        let Some(until) = until else {
+            return true;
+        };
+        let wait = wait_until(self.context.clock.now(), *until);
+        stream
+            .set_read_timeout(Some(Duration::from_millis(wait)))
+            .is_ok()
+    }
+
+    // Gives the link its name, and closes the link that had it, if names are taken over. The
+    // directory stays locked meanwhile. The older link's worker has to leave the directory before
+    // its place goes to the next link, so the next link isn't closed in place of the older one. If
+    // the link gets no name, it counts as faulted.
+    fn take_over(&self, name: &Recipient) -> Option<HeldName>
+        ensures held { IfSome result (IsHeld name.now self.now.number) }
+    {
+        let rt = self.context.rt;
+        let mut directory = self.server.directory.lock(rt);
+        let takes_over = self.server.policy.takes_over;
+        let Some((held, was)) = named(&mut directory, name, self.number, takes_over) else {
+            self.count_fault();
+            return None;
+        };
+        if let Some(older) = was {
+            if let Some(link) = self.server.links.get(older) {
+                link.take(rt);
+            }
+            self.server.signals.counts.taken_over.add(1);
+            self.server.tell(rt, Sight::TakenOver(*name));
+        }
+        self.server.tell(rt, Sight::Linked(*name));
+        Some(held)
+    }
+
+    // Ends the reading of the link. `is_sent` says whether it has a sender.
+    fn end_link(&mut self, held: HeldName, is_sent: bool) -> Farewell
+        ensures farewell { IsFarewell held result }
+        ensures ended { IsTrue self.old.has_ended → IsTrue self.new.has_ended }
+        ensures same { self.new ≡ record self.old { has_ended = self.new.has_ended } }
+    {
+        if let Some(ending) = self.server.signals.ending() {
+            self.end_input();
+            return Farewell::Kept(ending);
+        }
+        if is_sent && let Some(lasting) = Lasting::of(&self.server.policy) {
+            self.end_input();
+            return Farewell::Stays(lasting);
+        }
+        let rt = self.context.rt;
+        let mut directory = self.server.directory.lock(rt);
+        let left = directory.leave(held);
+        drop(directory);
+        self.link.set_over();
+        if left.is_free() {
+            self.server.tell(rt, Sight::Ended(left.name()));
+        }
+        Farewell::Left(left)
+    }
+}

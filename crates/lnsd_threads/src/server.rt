@@ -1,0 +1,93 @@
+// What the threads of a life share.
+ghost use Rattle.std.specs.Prelude.{◌≡◌, ℕ, IsSome, None, slice_get};
+ghost use Rattle.std.specs.Option.{option_copied};
+ghost use Rattle.gateway_wire.specs.declared.recipient.Recipient.TheVariants as names;
+ghost use Rattle.lw_types.specs.declared.identifiers.Eui.{Eui};
+
+use gateway_wire::Recipient;
+use lnsd_links::{Directory, Entrance, LifeStage, Link, Policy, Signals, WaitingLines, drop_all};
+use lnsd_operator::ControlSocket;
+use session_core::{Books, Shared};
+use std::sync::{Mutex, Wait};
+
+/// The links, the data behind locks, and the signals. No thread holds both locks at once, nor one
+/// of them while it reads, writes or syncs. While the directory is locked, a greeting closes an
+/// older link of its name, and sends an event to the operators who watch. This takes the locks of
+/// that link's socket and of the watchers' places; nothing else takes a lock while the directory is
+/// locked.
+#[derive(Drop)]
+pub struct LiveServer<B: Books> {
+    pub links: Vec<Link>,
+    pub entrance: Entrance,
+    pub policy: Policy,
+    // The socket for operators, in a life with operators.
+    pub control: Option<ControlSocket>,
+    pub sessions: Mutex<Shared<B>>,
+    pub directory: Mutex<Directory>,
+    // For each application, the lines that wait for it, if lines wait.
+    pub lines: Vec<WaitingLines>,
+    pub signals: Signals,
+}
+
+impl<B: Books> LiveServer<B> {
+    /// Closes the links, so that each thread ends.
+    pub fn stop<R: Wait>(&self, rt: &R) {
+        self.signals.stop();
+        self.shut_door();
+        for link in &self.links {
+            link.close(rt);
+        }
+    }
+
+    /// Ends the inputs of the links, after what has come, and accepts no more links. A thread that
+    /// checks after this sees that the life is ending.
+    pub(crate) fn end<R: Wait>(&self, rt: &R) {
+        self.signals.reach(LifeStage::Ending);
+        self.shut_door();
+        for link in &self.links {
+            link.close_input(rt);
+        }
+    }
+
+    /// The lines that wait for an application, if applications have rings of their own.
+    pub(crate) fn lines_of(&self, name: &Recipient) -> Option<&WaitingLines>
+        ensures gateway { (gateway : Eui) → name.now ≡ names.Gateway gateway → result ≡ None }
+        ensures application { (application : ℕ) → name.now ≡ names.Application application
+            → option_copied result ≡ slice_get self.now.lines.items application }
+    {
+        match name {
+            Recipient::Application(application) => self.lines.get(application.get() as usize),
+            Recipient::Gateway(_) => None,
+        }
+    }
+
+    /// Drops the lines that wait for applications, since no link takes anything more.
+    pub fn drop_lines<R: Wait>(&self, rt: &R) {
+        for lines in &self.lines {
+            if let Some(inlet) = lines.lock(rt).as_mut() {
+                self.signals.counts.dropped.add(drop_all(inlet));
+            }
+        }
+    }
+
+    /// Says that operators are no longer served.
+    pub fn close<R: Wait>(&self, rt: &R) {
+        self.signals.reach(LifeStage::Closed);
+        if let Some(control) = &self.control {
+            control.close(rt);
+        }
+    }
+
+    fn shut_door(&self) {
+        if let Some(door) = self.entrance.door() {
+            door.shut();
+        }
+    }
+
+    /// Wakes the senders to check their rings again.
+    pub fn ring_senders(&self) {
+        for link in &self.links {
+            link.bell.unpark();
+        }
+    }
+}

@@ -1,6 +1,0 @@
--- this number of the commands were added
-use Rattle.std.proofs.Common.{◌≡◌, ◌++◌, take}
-use Rattle.plain_world.proofs.model.add.Given as goal
-
-abbrev pub invariant-loop-command : goal.invariant-loop-command
-invariant-loop-command l = l.commands.items ≡ l.fn.commands.items ++ take l.command-index l.more

@@ -1,4 +1,0 @@
-mod Answered
-mod Routed
-mod Together
-mod Written

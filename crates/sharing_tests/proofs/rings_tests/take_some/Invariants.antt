@@ -1,5 +1,0 @@
-use Rattle.outbox.specs.Ring.{SameInlet}
-use Rattle.sharing_tests.proofs.rings_tests.take_some.Given as goal
-
-abbrev pub invariant-loop : goal.invariant-loop
-invariant-loop l = SameInlet l.initial.inlet l.inlet

@@ -1,0 +1,5 @@
+use Rattle.outbox.specs.Ring.{SameInlet}
+use Rattle.thread_tests.proofs.rings_tests.take_some.Given as goal
+
+abbrev pub invariant-loop : goal.invariant-loop
+invariant-loop l = SameInlet l.initial.inlet l.inlet

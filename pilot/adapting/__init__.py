@@ -1,0 +1,1 @@
+"""Adaptive data rate (ADR): what the program adr decides by."""

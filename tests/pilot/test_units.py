@@ -1,0 +1,151 @@
+"""The units of the package: how much of the system they may use, and what they run."""
+
+import os
+import re
+import shlex
+import subprocess
+import time
+from pathlib import Path
+
+import pytest
+from bozintar.processes import HOST, await_that, command
+
+from .doors import Doors, gateway
+from .field import GATEWAYS
+from .parts import PILOT, Pilot
+
+UNITS = sorted((PILOT.parent / "packaging/systemd").glob("*.service"))
+NAMES = [unit.name for unit in UNITS]
+# the exposure of systemd-analyze that a unit may have at most, from 0 to 10
+MOST = 2.5
+# what uses certificates, in the package's settings or as its operator may set it
+BY_TLS = (
+    "bozintar-applications-mqtt@.service",
+    "bozintar-door.service",
+    "bozintar-gateways-mqtt.service",
+    "bozintar-readings@.service",
+    "bozintar-web-console.service",
+    "mosquitto.service.d/bozintar.conf",
+    "stunnel@bozintar.service.d/again.conf",
+)
+
+
+def text_of(name: str) -> str:
+    """The text of a unit."""
+    return (PILOT.parent / "packaging/systemd" / name).read_text(encoding="utf-8")
+
+
+def line_of(name: str, key: str) -> str:
+    """The value of a setting of a unit that it has once."""
+    found = re.search(rf"^{key}=((?:.*\\\n)*.*)", text_of(name), re.MULTILINE)
+    assert found, f"{name} has no {key}"
+    return found[1].replace("\\\n", "")
+
+
+@pytest.mark.parametrize("unit", UNITS, ids=NAMES)
+def test_exposure(unit: Path, folder: Path) -> None:
+    """Each unit may use little of the system."""
+    # an instance, since a template alone can't be looked at
+    copy = folder / unit.name.replace("@.", "@3.")
+    copy.write_bytes(unit.read_bytes())
+    words = [command("systemd-analyze"), "security", "--offline=true", "--no-pager", str(copy)]
+    said = subprocess.run(words, capture_output=True, text=True, check=False).stdout
+    found = re.search(r"Overall exposure level for \S+: ([0-9.]+)", said)
+    assert found and float(found[1]) <= MOST, said
+
+
+@pytest.mark.parametrize("unit", UNITS, ids=NAMES)
+def test_user(unit: Path) -> None:
+    """No unit runs as root."""
+    assert re.findall("^User=(.*)$", unit.read_text(encoding="utf-8"), re.MULTILINE) in (
+        ["lnsd"],
+        ["bozintar"],
+        ["bozintar-console"],
+        ["bozintar-door"],
+    )
+
+
+@pytest.mark.parametrize("name", BY_TLS)
+def test_time(name: str) -> None:
+    """What uses certificates starts once the time is set."""
+    for key in ("After", "Wants"):
+        assert "time-sync.target" in line_of(name, key).split()
+
+
+def shell(name: str, key: str, *changes: tuple[str, str]) -> list[str]:
+    """The words of a command of a unit, with other places."""
+    line = line_of(name, key).removeprefix("+")
+    for old, new in changes:
+        assert old in line, f"{name} has no {old}"
+        line = line.replace(old, new)
+    return shlex.split(line)
+
+
+def run(words: list[str], **environment: str) -> None:
+    """Runs a command of a unit to its end."""
+    subprocess.run(words, env={"PATH": "/usr/bin:/bin", **environment}, check=True)
+
+
+def test_list_is_read_again(pilot: Pilot) -> None:
+    """A reload has the gateways' list read again, from a copy that the bridge may read: other files
+    beside the list stay closed to it."""
+    name, listed, copies = "bozintar-gateways-udp.service", pilot.file("list/gateways"), "copies"
+    os.mkdir(os.path.dirname(listed))
+    lines = f"{GATEWAYS[0]}\n", f"{GATEWAYS[0]}\n{GATEWAYS[1]}\n"
+    pilot.file("list/gateways", lines[0])
+    places = (
+        ("/etc/bozintar/gateways", listed),
+        ("%t/bozintar-lists", pilot.file(copies)),
+        ("-g bozintar ", ""),
+    )
+    run(shell(name, "ExecStartPre", *places))
+    assert os.listdir(pilot.file(copies)) == ["gateways"]
+    assert "--gateways %t/bozintar-lists/gateways" in line_of(name, "ExecStart")
+    words: tuple = ("--network", pilot.network, "--udp", f"{HOST}:{pilot.udp_port}")
+    words += ("--gateways", pilot.file(f"{copies}/gateways"))
+    bridge = pilot.own("gateways-udp", *words).start("for 1 gateways")
+    pilot.file("list/gateways", lines[1])
+    run(shell(name, "ExecReload", *places), MAINPID=str(bridge.pid))
+    await_that("the list is read again", lambda: bridge.has_said("2 gateways"))
+
+
+def test_door_reads_its_files_again(doors: Doors) -> None:
+    """The door's unit copies its files, and no others; a reload does so again."""
+    name, copies = "bozintar-door.service", doors.pilot.file("tls")
+    places = (
+        ("/etc/bozintar/tls", doors.own.folder),
+        ("%t/bozintar-door-tls", copies),
+        ("-g bozintar-door ", ""),
+    )
+    run(shell(name, "ExecStartPre", *places))
+    files = {"ca.crt", "ca.crl", "server.crt", "server.key"}
+    assert set(os.listdir(copies)) == files
+    line = line_of(name, "ExecStart").replace("%t/bozintar-door-tls", copies)
+    line = line.replace("${NETWORK}", doors.pilot.network).replace("$DOOR_WORDS", "")
+    line = line.replace("${DOOR}", f"{HOST}:{doors.port}").replace("%t/bozintar-door", copies)
+    door = doors.pilot.own("secure/door", *shlex.split(line)[1:]).start("listens on")
+    run(shell(name, "ExecReload", *places), MAINPID=str(door.pid))
+    await_that("the files are read again", lambda: door.has_said("read the files again"))
+    greeting = gateway(GATEWAYS[0])
+    assert doors.connect(doors.own.context(GATEWAYS[0].lower()), greeting) == b""
+    await_that("its counts are there", lambda: os.path.exists(f"{copies}/door.prom"))
+    counts = Path(f"{copies}/door.prom").read_text(encoding="utf-8")
+    for file in ("server.crt", "ca.crl"):
+        found = re.search(rf'pilot_certificate_end_seconds{{file="{copies}/{file}"}} (\S+)', counts)
+        assert found and float(found[1]) > time.time(), f"when {file} ends"
+
+
+def test_events_in_the_journal(pilot: Pilot) -> None:
+    """The unit for events waits for a server, prints its events, and ends with it."""
+    name, program = "bozintar-watch.service", pilot.program
+    words = shell(
+        name, "ExecStart", ("/usr/bin/lnsd", program.path), ("%S/lnsd/store", program.store)
+    )
+    program.stop()
+    watch = pilot.process("watch", *words).start()
+    port = pilot.address[1]
+    program.run_on(96, port=port)
+    await_that("it watches", lambda: watch.has_said("watching"))
+    program.stop()
+    watch.ended()
+    assert line_of(name, "Restart") == "always"
