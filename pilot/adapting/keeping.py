@@ -1,5 +1,6 @@
 """What is known of devices, in an SQLite database. A row is written after each event, before a
-command is published: a service that is killed knows afterwards what it has asked for."""
+command is published: a service that is killed knows afterwards what it has asked for. When a status
+was asked for is written after the publication, since such a request isn't repeated for a day."""
 
 import json
 import sqlite3

@@ -1,6 +1,7 @@
 """The service adr beside a broker: what it publishes by the events of an application, what it knows
 after a restart, and what it ignores. No network takes part; pilot/adr.md has the formats."""
 
+import asyncio
 import json
 import re
 import signal
@@ -15,7 +16,7 @@ from bozintar.processes import HOST, Process, await_that
 
 from .doors import Doors
 from .field import GATEWAYS, counts_in
-from .parts import Parts, run
+from .parts import Parts, program_of_pilot, run
 from .rows import table
 from .whole import Dashboard
 
@@ -294,6 +295,39 @@ def test_status(service: Service) -> None:
     service.say(FIRST, "mac", {"joinNonce": 1, "commands": "0307"})
     service.up(8, 12, rate=4, snr=-3.0)
     assert len(service.asked(2)) == 2
+
+
+async def uplinks_until_a_kill(adr: Any, parts: Parts) -> list[tuple[str, str]]:
+    """Four uplinks, a kill in place of the request that follows, a start, and five more uplinks:
+    the commands that are published then, and for which device."""
+    own = ("--broker", f"{HOST}:{parts.broker_port}", "--application", 3)
+    words = (*own, "--db", parts.file("adr.db"))
+    given = adr.options_of().parse_args([str(word) for word in words])
+    published: list[tuple[str, str]] = []
+
+    def kill(*_request: Any) -> None:
+        raise KeyboardInterrupt
+
+    def note(name: str, _session: int, request: Any) -> None:
+        published.append((name, request.command().hex()))
+
+    for first, count, publish in ((0, 4, kill), (4, 5, note)):
+        service = adr.Service(given, adr.Counts("pilot_adr", adr.COUNTED, None))
+        service.publish = publish
+        for counter in range(first, first + count):
+            body = json.dumps(event(counter, snr=-10.0)).encode()
+            try:
+                service.take(f"application/3/device/{FIRST.lower()}/event/up", body)
+            except KeyboardInterrupt:
+                break
+    return published
+
+
+def test_status_after_a_kill(parts: Parts) -> None:
+    """A service that is killed before it has published a request for the status asks for it again,
+    after four more uplinks without an answer."""
+    published = asyncio.run(uplinks_until_a_kill(program_of_pilot("adr"), parts))
+    assert published == [(FIRST, STATUS)]
 
 
 def test_away_broker(service: Service) -> None:
