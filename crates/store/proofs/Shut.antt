@@ -17,7 +17,8 @@ use Rattle.store_layout.specs.Entries.{AreEntries, entries, entries_of_table}
 use Rattle.store_layout.specs.Superblock.{disk_len, superblock_body}
 use Rattle.store.specs.Checkpointing.{header_behind}
 use Rattle.store.specs.Formatting.{IsNewStoreImage, IsShut, IsShutImage}
-use Rattle.store.specs.Image.{Says, area_a, area_b}
+use Rattle.store.specs.Image.{HoldsTable, Says, area_a, area_b}
+use Rattle.store.specs.State.{IsSettled, StoreState}
 use Rattle.store.specs.declared.areas.TheConstants.{RECORD_VERSION}
 use Rattle.gate_log.specs.Log.{IsAtRest, KnowsOther, LogState}
 use Rattle.store.specs.Establishing.{IsBehindShut, IsFirstImage, IsOpenedImage, first_contents, opened_contents}
@@ -197,3 +198,31 @@ pub new_store : (t : TableState) (seq : ℕ) (c : LogContents) (old image : List
 new_store t seq c old image says (inl closed) = inl closed
 new_store t seq c old image says (inr (inl holds)) = inr (inl (record { version = newest; contents = c; holds = holds; says = says }))
 new_store t seq c old image says (inr (inr same)) = inr (inr same)
+
+-- ---- a store whose gate is being closed
+
+same_if_open : (old image : List ℕ) → drop 1 image ≡ drop 1 old → get_or old 0 0 ≡ OPEN → get_or image 0 0 ≡ OPEN → image ≡ old
+same_if_open [] image same was is = absurd (omega (arith, was))
+same_if_open (x ∷ old) [] same was is = absurd (omega (arith, is))
+same_if_open (x ∷ old) (y ∷ image) same was is = λ i. (is ∙ sym was) i ∷ same i
+
+-- an image holds the store, or none
+pub shut_or_held : (s : StoreState) → IsSettled s → (image : List ℕ) → drop 1 image ≡ drop 1 s.log.disk.content
+    → (get_or image 0 0 ≢ OPEN) ⊎ HoldsTable s.table s.seq image
+shut_or_held s settled image same =
+    let c = settled.contents in
+    let content = s.log.disk.content in
+    let holds = settled.rest.holds in
+    let long = front_is s.table.slots c.areas settled.says.areas in
+    let some : 1 ≤ front_len c.areas = omega (arith, long) in
+    let was : get_or content 0 0 ≡ OPEN =
+    sym (get_or-take (front_len c.areas) content 0 0 some) ∙ ap (λ (l : List ℕ). get_or l 0 0) (holds.front ∙ settled.says.front) in
+    elim (cases_eq (get_or image 0 0) OPEN) [
+      | inl is ↦ inr (record {
+          version = newest;
+          contents = c;
+          holds = subst (Holds c) (sym (same_if_open content image same was is)) holds;
+          says = settled.says;
+        })
+      | inr other ↦ inl other
+    ]

@@ -150,8 +150,8 @@ pub(crate) fn write_shut<D: Disk>(
     Ok(next)
 }
 
-// Closes the superblock's gate.
-fn shut<D: Disk>(disk: &mut D) -> Result<(), disk::DeviceFailed>
+/// Closes the superblock's gate.
+pub(crate) fn shut<D: Disk>(disk: &mut D) -> Result<(), disk::DeviceFailed>
     requires { 1 ≤ length (D.state disk.old).content }
     ensures shut { D.honest → OnOk result (IsShut (D.state disk.new)) }
     ensures images { D.honest → NothingOpen (D.state disk.old) → EveryImage (D.state disk.new)

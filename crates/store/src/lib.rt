@@ -19,6 +19,7 @@ mod phases;
 mod preparing;
 mod publishing;
 mod recover;
+mod replacing;
 mod restore;
 mod store;
 mod taking_over;

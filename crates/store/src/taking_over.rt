@@ -10,6 +10,7 @@ ghost use Rattle.gate_log.specs.Log.{log_disk as disk_of_log, log_state, IsAtRes
 ghost use Rattle.gate_log.specs.Opening.{disk_in_opening};
 ghost use Rattle.record_codec.specs.Version.{newest};
 ghost use Rattle.record_codec.specs.declared.version.RecordVersion.{RecordVersion};
+ghost use Rattle.sessions.specs.Table.{TableState};
 ghost use Rattle.store.specs.Found.{IsOpeningOf};
 ghost use Rattle.store.specs.Image.{HaveLength, HoldsTable, Says};
 ghost use Rattle.store.specs.State.{IsSettled};
@@ -56,21 +57,32 @@ impl Found {
     }
 }
 
-// Publishes the table that the live area holds in the other area, in the newest version.
-fn publish<D: Disk>(alloc: Global, log: &mut Log<D>, table: &Table, seq: u64) -> Result<(), Refusal>
+/// Publishes a table in the other area, in the newest version, with the number that the live area
+/// holds. Until the last call has succeeded a crash leaves what the live area holds, or the new
+/// table. Refused with `OutOfMemory` before any call, or else with `DeviceFailed` exactly if a call
+/// of the disk failed.
+pub(crate) fn publish<D: Disk>(
+    alloc: Global,
+    log: &mut Log<D>,
+    table: &Table,
+    seq: u64,
+) -> Result<(), Refusal>
     requires early { (log_state D.state log.old).generation < LAST_GENERATION }
     requires long { HaveLength table.now.slots (log_state D.state log.old).areas }
-    ensures settled { D.honest → (version : RecordVersion) (c : LogContents)
-        → IsAtRest (log_state D.state log.old) c → Says version c table.now seq
+    ensures settled { D.honest → (version : RecordVersion) (c : LogContents) (was : TableState)
+        → IsAtRest (log_state D.state log.old) c → Says version c was seq
+        → was.net_id ≡ table.now.net_id → was.slots ≡ table.now.slots
         → OnOk result (IsSettled (record {
           log = log_state D.state log.new;
           table = table.now;
           seq = seq;
           failed = false;
         })) }
-    ensures images { D.honest → (version : RecordVersion) (c : LogContents)
-        → IsAtRest (log_state D.state log.old) c → Says version c table.now seq
-        → EveryImage (D.state (disk_of_log log.new)) (HoldsTable table.now seq) }
+    ensures images { D.honest → (version : RecordVersion) (c : LogContents) (was : TableState)
+        → IsAtRest (log_state D.state log.old) c → Says version c was seq
+        → was.net_id ≡ table.now.net_id → was.slots ≡ table.now.slots
+        → EveryImage (D.state (disk_of_log log.new))
+        (λ image. HoldsTable was seq image ⊎ HoldsTable table.now seq image) }
     ensures long { OnOk result (HaveLength table.now.slots (log_state D.state log.new).areas) }
     ensures cause { MatchResult result
         (λ _. D.failures (disk_of_log log.new) ≡ D.failures (disk_of_log log.old))

@@ -1,4 +1,4 @@
-use Rattle.std.proofs.Common.{◌≡◌, ◌∙◌, ◌+◌, inl, inr, length, ap, subst, sym}
+use Rattle.std.proofs.Common.{◌≡◌, ◌∙◌, ◌+◌, inl, inr, length, ap, refl, subst, sym}
 use Rattle.disk.specs.Outlook.{IsArmed}
 use Rattle.disk.specs.State.{IsPermitted}
 use Rattle.gate_log.specs.Log.{log_disk as disk_of_log}
@@ -22,7 +22,7 @@ returns-in-Ok g c =
           let was : HoldsTable self.table self.seq content = record { version = self.version; contents = found.contents; holds = found.holds; says = found.says } in
           let rest = c.into_log-log.ensures.rest honest found.contents found.holds found.live found.areas found.header found.next in
           subst (IsOpened content) (sym c.new.ensures.store) (record {
-            settled = is.settled honest self.version found.contents rest found.says;
+            settled = is.settled honest self.version found.contents self.table rest found.says refl refl;
             was = was;
             only = found.only;
             same = λ new. absurd (new (self.table, (self.seq, (was, c.requires.older))));
@@ -65,7 +65,10 @@ returns-in-Err g c =
       kept = λ honest found t seq holds image permitted.
           let rest = c.into_log-log.ensures.rest honest found.contents found.holds found.live found.areas found.header found.next in
           let only = found.only t seq holds in
-          let held = is.images honest self.version found.contents rest found.says image (subst (λ d. IsPermitted (state d) image) closed permitted) in
+          let held : HoldsTable self.table self.seq image = elim (is.images honest self.version found.contents self.table rest found.says refl refl image (subst (λ d. IsPermitted (state d) image) closed permitted)) [
+            | inl old ↦ old
+            | inr new ↦ new
+          ] in
           subst (λ u. HoldsTable u seq image) (sym only.0) (subst (λ n. HoldsTable self.table n image) (sym only.1) held);
       same_length = ap (λ d. length (state d).content) closed ∙ (is.same_length ∙ ap (λ d. length (state d).content) logged);
     }
