@@ -11,5 +11,6 @@ mod restoring;
 
 pub use fault::FileFault;
 pub use new_file::{NewFile, create, remove_new};
+pub use read_only::ReadOnly;
 pub use record::{RECORD_NAME, session_in_line};
-pub use restoring::{RestoreRequest, RestoredStore, restore};
+pub use restoring::{RestoreRequest, RestoredStore, open_copy, restore};

@@ -4,12 +4,13 @@ use disk::{DeviceFailed, Disk};
 /// Reads another disk, and drops what is written. So the store of a copy can be opened, even one of
 /// an older version, which an opening takes over by writing, and the copy doesn't change.
 #[derive(Drop)]
-pub(crate) struct ReadOnly<D> {
+pub struct ReadOnly<D> {
     disk: D,
 }
 
 impl<D> ReadOnly<D> {
-    pub(crate) fn new(disk: D) -> Self {
+    /// Nothing is written to this disk.
+    pub fn new(disk: D) -> Self {
         ReadOnly { disk }
     }
 }

@@ -181,9 +181,9 @@ fn restored(raised: Table, since: GrantsSince) -> Result<Table, FileFault>
     }
 }
 
-// The store of a copy. An opening reads from the copy's file and writes nothing there. So the
-// superblock and the length are checked first, and memory holds only the table.
-fn open_copy<R: Files<File = File>>(
+/// The store of a copy. An opening reads from the copy's file and writes nothing there. So the
+/// superblock and the length are checked first, and memory holds only the table.
+pub fn open_copy<R: Files<File = File>>(
     rt: &R,
     alloc: Global,
     file: &str,

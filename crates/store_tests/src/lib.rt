@@ -14,6 +14,8 @@ mod fronts_tests;
 #[cfg(test)]
 mod images_tests;
 #[cfg(test)]
+mod replacing_tests;
+#[cfg(test)]
 mod store_checkpoints_tests;
 #[cfg(test)]
 mod store_joins_tests;

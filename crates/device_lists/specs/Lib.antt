@@ -1,0 +1,4 @@
+pub mod Columns
+pub mod Values
+pub mod Export
+pub mod Lists

@@ -1,0 +1,210 @@
+// What the values of a line ask for.
+ghost use Rattle.std.specs.Prelude.{◌≡◌, ◌≤◌, ℕ, Option, MatchResult};
+ghost use Rattle.std.specs.Fmt.{decimal};
+ghost use Rattle.device_lists.specs.Values.{HasRest, IsAmendmentOf, IsGiven, IsGivenOr, IsIn};
+ghost use Rattle.device_lists.specs.Values.{IsImportOf, IsNonceChange, MayBeGiven};
+ghost use Rattle.device_lists.specs.Values.{text_in};
+
+use crate::{Column, Fields, LineFault};
+use device_changes::{Amendment, Importing, LastJoinNonce};
+use devices::{Provisioning, Ranged, Rx1Offset, RxDelay};
+use lw_types::FromText;
+
+/// The import that a line asks for. Refused exactly if it asks for none, because a value is missing
+/// or is none of its column. Offset and Delay are 0 and 1 if they are missing, and the last nonces
+/// are none and 0.
+pub fn importing_of(fields: &Fields<'_>) -> Result<Importing, LineFault>
+    ensures { MatchResult result (λ i. IsImportOf fields.now i)
+        (λ _. (i : Importing) → ¬ (IsImportOf fields.now i)) }
+{
+    let dev_eui = given(Column::DevEui, fields.dev_eui)?;
+    let join_eui = given(Column::JoinEui, fields.join_eui)?;
+    let app_key = given(Column::AppKey, fields.app_key)?;
+    let application: Decimal<0, 15> = given(Column::Application, fields.application)?;
+    let rx1_offset = number_or(Column::Offset, fields.offset, usual_offset())?;
+    let rx_delay = number_or(Column::Delay, fields.delay, usual_delay())?;
+    let last_dev_nonce = may_be_given(Column::LastDevNonce, fields.last_dev_nonce)?;
+    let last_join_nonce =
+        number_or(Column::LastJoinNonce, fields.last_join_nonce, no_join_nonce())?;
+    check_rest(fields)?;
+    let provisioning = Provisioning {
+        application: application.0,
+        dev_eui,
+        join_eui,
+        app_key,
+        rx1_offset,
+        rx_delay,
+    };
+    Ok(Importing {
+        provisioning,
+        last_dev_nonce,
+        last_join_nonce,
+    })
+}
+
+fn usual_offset() -> Rx1Offset
+    ensures { result ≡ 0 }
+{
+    Ranged::new(0).unwrap()
+}
+
+fn usual_delay() -> RxDelay
+    ensures { result ≡ 1 }
+{
+    Ranged::new(1).unwrap()
+}
+
+fn no_join_nonce() -> LastJoinNonce
+    ensures { result ≡ 0 }
+{
+    Ranged::new(0).unwrap()
+}
+
+/// The amendment that a line asks for: what is missing stays as it is. Refused exactly if it asks
+/// for none, because there is no DevEUI, or because a value is none of its column.
+pub fn amendment_of(fields: &Fields<'_>) -> Result<Amendment, LineFault>
+    ensures { MatchResult result (λ a. IsAmendmentOf fields.now a)
+        (λ _. (a : Amendment) → ¬ (IsAmendmentOf fields.now a)) }
+{
+    let dev_eui = given(Column::DevEui, fields.dev_eui)?;
+    let app_key = may_be_given(Column::AppKey, fields.app_key)?;
+    let application = number(Column::Application, fields.application)?;
+    let join_eui = may_be_given(Column::JoinEui, fields.join_eui)?;
+    let rx1_offset = number(Column::Offset, fields.offset)?;
+    let rx_delay = number(Column::Delay, fields.delay)?;
+    let last_dev_nonce = nonce_change(fields.last_dev_nonce)?;
+    let last_join_nonce = number(Column::LastJoinNonce, fields.last_join_nonce)?;
+    check_rest(fields)?;
+    Ok(Amendment {
+        dev_eui,
+        app_key,
+        application,
+        join_eui,
+        rx1_offset,
+        rx_delay,
+        last_dev_nonce,
+        last_join_nonce,
+    })
+}
+
+// A whole number in a range, in decimal.
+#[derive(Clone, Copy)]
+struct Decimal<const LEAST: u64, const MOST: u64>(Ranged<LEAST, MOST>);
+
+impl<const LEAST: u64, const MOST: u64> FromText for Decimal<LEAST, MOST> {
+    ghost is_value = { λ n. (LEAST ≤ n.0) × (n.0 ≤ MOST) };
+
+    ghost text_of = { λ n. decimal n.0 };
+
+    fn from_text(text: &str) -> Option<Self> {
+        Some(Decimal(Ranged::new(u64::from_text(text)?)?))
+    }
+}
+
+// Whether a device has a session.
+#[derive(Clone, Copy)]
+struct YesOrNo(bool);
+
+impl FromText for YesOrNo {
+    ghost use Rattle.device_lists.specs.Values.{yes_or_no};
+
+    ghost text_of = { λ answer. yes_or_no answer.0 };
+
+    #[tactic(auto, unfolding(crate::specs::Values::yes_or_no))]
+    fn from_text(text: &str) -> Option<Self> {
+        match text {
+            "yes" => Some(YesOrNo(true)),
+            "no" => Some(YesOrNo(false)),
+            _ => None,
+        }
+    }
+}
+
+// A value that is needed.
+fn given<T: FromText + Copy>(column: Column, field: Option<&str>) -> Result<T, LineFault>
+    ensures { MatchResult result (λ x. IsGiven T.is_value T.text_of (text_in field.entry) x)
+        (λ _. (x : T) → ¬ (IsGiven T.is_value T.text_of (text_in field.entry) x)) }
+{
+    let Some(text) = field else {
+        return Err(LineFault::Missing(column));
+    };
+    match T::from_text(text) {
+        Some(value) => Ok(value),
+        None if text.is_empty() => Err(LineFault::Missing(column)),
+        None => Err(LineFault::Value(column)),
+    }
+}
+
+// A value that may be missing.
+fn may_be_given<T: FromText + Copy>(
+    column: Column,
+    field: Option<&str>,
+) -> Result<Option<T>, LineFault>
+    ensures { MatchResult result (λ x. MayBeGiven T.is_value T.text_of (text_in field.entry) x)
+        (λ _. (x : Option T) → ¬ (MayBeGiven T.is_value T.text_of (text_in field.entry) x)) }
+{
+    let Some(text) = field else {
+        return Ok(None);
+    };
+    if text.is_empty() {
+        return Ok(None);
+    }
+    match T::from_text(text) {
+        Some(value) => Ok(Some(value)),
+        None => Err(LineFault::Value(column)),
+    }
+}
+
+// A number that may be missing.
+fn number<const LEAST: u64, const MOST: u64>(
+    column: Column,
+    field: Option<&str>,
+) -> Result<Option<Ranged<LEAST, MOST>>, LineFault>
+    ensures { MatchResult result
+        (λ x. MayBeGiven (IsIn LEAST MOST) decimal (text_in field.entry) x)
+        (λ _. (x : Option ℕ) → ¬ (MayBeGiven (IsIn LEAST MOST) decimal (text_in field.entry) x)) }
+{
+    let found: Option<Decimal<LEAST, MOST>> = may_be_given(column, field)?;
+    match found {
+        Some(number) => Ok(Some(number.0)),
+        None => Ok(None),
+    }
+}
+
+// A number, or its default if it is missing.
+fn number_or<const LEAST: u64, const MOST: u64>(
+    column: Column,
+    field: Option<&str>,
+    default: Ranged<LEAST, MOST>,
+) -> Result<Ranged<LEAST, MOST>, LineFault>
+    ensures { MatchResult result
+        (λ x. IsGivenOr (IsIn LEAST MOST) decimal default.entry (text_in field.entry) x)
+        (λ _. (x : ℕ)
+        → ¬ (IsGivenOr (IsIn LEAST MOST) decimal default.entry (text_in field.entry) x)) }
+{
+    match number(column, field)? {
+        Some(number) => Ok(number),
+        None => Ok(default),
+    }
+}
+
+// What happens to the last DevNonce.
+fn nonce_change(field: Option<&str>) -> Result<Option<Option<u16>>, LineFault>
+    ensures { MatchResult result (λ x. IsNonceChange (text_in field.entry) x)
+        (λ _. (x : Option (Option ℕ)) → ¬ (IsNonceChange (text_in field.entry) x)) }
+{
+    if field.is_none() {
+        return Ok(None);
+    }
+    Ok(Some(may_be_given(Column::LastDevNonce, field)?))
+}
+
+// The values that aren't used must be right, too: a faulty line is likely to be shifted.
+fn check_rest(fields: &Fields<'_>) -> Result<(), LineFault>
+    ensures { MatchResult result (λ _. HasRest fields.now) (λ _. ¬ (HasRest fields.now)) }
+{
+    let _heard: Option<Decimal<0, 9_223_372_036_854_775_807>> =
+        may_be_given(Column::Heard, fields.heard)?;
+    let _session: Option<YesOrNo> = may_be_given(Column::Session, fields.session)?;
+    Ok(())
+}

@@ -1,0 +1,354 @@
+// Commands that change the devices of a store in a file.
+use crate::EditFault;
+use crate::changes::{NotChanged, NotGrown, grow_into, with_changes};
+use crate::reading::{NEXT_LINE, list_fault, random_key, read_changes};
+use device_changes::{
+    Change, FaultyRow, GrowRefused, Refused, Retirement, changed_table, grown_table,
+    imported_table, waiting_items,
+};
+use device_lists::{AppKeys, DeviceList, ListUse, list_of, row_text};
+use devices::Device;
+use disk::FileDisk;
+use lw_types::{Eui, NetId, Refusal};
+use sessions::{Slots, Table};
+use std::alloc::{AllocError, Global};
+use std::fs::File;
+use std::rt::Files;
+use store::{Store, establish_back, open};
+use store_files::{FileFault, ReadOnly, create, open_copy, remove_new};
+
+/// Whether a command only finds out what it would do. Then it writes nothing.
+#[derive(Clone, Copy, Debug, PartialEq, Eq)]
+pub struct DryRun(pub bool);
+
+/// What a command did, or would do.
+#[derive(Clone, Copy, Debug, PartialEq, Eq)]
+pub struct Counts {
+    /// How many devices were imported, amended or retired.
+    pub changed: usize,
+    /// How many devices the store has now.
+    pub devices: usize,
+    /// How many it has room for.
+    pub slots: u64,
+    /// How many devices had a session, and have none now.
+    pub sessions_ended: usize,
+    /// How many items waited for devices, and were dropped.
+    pub items_dropped: usize,
+}
+
+/// The list of the devices of the store in a file. Nothing is written to the file.
+pub fn export<R: Files<File = File>>(
+    rt: &R,
+    alloc: Global,
+    file: &str,
+    keys: AppKeys,
+) -> Result<String, EditFault> {
+    let store = read_store(rt, alloc, file)?;
+    Ok(list_of(alloc, store.table().devices(), keys)?)
+}
+
+/// Brings the devices of a list into the store in a file, with their last nonces and without
+/// sessions: all of them, or none if a line is faulty. A crash at any moment leaves the store as it
+/// was, or with all of them.
+pub fn import<R: Files<File = File>>(
+    rt: &R,
+    alloc: Global,
+    csv: &str,
+    file: &str,
+    dry_run: DryRun,
+) -> Result<Counts, EditFault> {
+    let list = read_changes(rt, alloc, csv, ListUse::Import)?;
+    change_by_list(rt, alloc, csv, &list, file, dry_run)
+}
+
+/// Makes a store of the devices of a list in a new file, as [`import`] brings them.
+pub fn import_new<R: Files<File = File>>(
+    rt: &R,
+    alloc: Global,
+    csv: &str,
+    file: &str,
+    net_id: NetId,
+    slots: Slots,
+    dry_run: DryRun,
+) -> Result<Counts, EditFault> {
+    let list = read_changes(rt, alloc, csv, ListUse::Import)?;
+    let empty = Table::new(alloc, net_id, slots)?;
+    let table = match imported_table(alloc, net_id, slots, list.changes.as_slice()) {
+        Ok(table) => table,
+        Err(refused) => return Err(refused_list(alloc, csv, &list, refused)),
+    };
+    let counts = counts_of(list.changes.len(), &empty, &table);
+    if !dry_run.0 {
+        make(rt, alloc, file, table)?;
+    }
+    Ok(counts)
+}
+
+/// Changes devices of the store in a file by a list: all lines, or none if one is faulty. A crash
+/// at any moment leaves the store as it was, or with all changes.
+pub fn amend<R: Files<File = File>>(
+    rt: &R,
+    alloc: Global,
+    file: &str,
+    csv: &str,
+    dry_run: DryRun,
+) -> Result<Counts, EditFault> {
+    let list = read_changes(rt, alloc, csv, ListUse::Amend)?;
+    change_by_list(rt, alloc, csv, &list, file, dry_run)
+}
+
+/// Retires devices of the store in a file: all of them, or none if one is unknown or named twice.
+/// Each gets a random AppKey, so it can't join, and its frames are refused.
+pub fn retire<R: Files<File = File>>(
+    rt: &R,
+    alloc: Global,
+    file: &str,
+    dev_euis: &[Eui],
+    dry_run: DryRun,
+) -> Result<Counts, EditFault> {
+    let rows = retirements(rt, alloc, dev_euis)?;
+    match change_file(rt, alloc, file, rows.as_slice(), dry_run) {
+        Ok(counts) => Ok(counts),
+        Err(NotDone::Rows(faulty)) => Err(retire_fault(alloc, dev_euis, faulty.as_slice())),
+        Err(NotDone::Other(fault)) => Err(fault),
+    }
+}
+
+// A row for each device, with an AppKey that nobody knows.
+fn retirements<R: Files<File = File>>(
+    rt: &R,
+    alloc: Global,
+    dev_euis: &[Eui],
+) -> Result<Vec<Change>, EditFault> {
+    let mut rows = Vec::new(alloc);
+    for dev_eui in dev_euis {
+        let retirement = Retirement {
+            dev_eui: *dev_eui,
+            app_key: random_key(rt)?,
+        };
+        if rows.push(Change::Retire(retirement)).is_err() {
+            return Err(Refusal::OutOfMemory.into());
+        }
+    }
+    Ok(rows)
+}
+
+/// Makes a store with more slots in a new file, with the same devices, sessions, queues and number
+/// of the last decision, and then closes the old one, which is no store after that. A crash at any
+/// moment leaves the old store, or the new one, or both: the old one is closed only after the new
+/// one is durable.
+pub fn grow<R: Files<File = File>>(
+    rt: &R,
+    alloc: Global,
+    old: &str,
+    new: &str,
+    slots: Slots,
+    dry_run: DryRun,
+) -> Result<Counts, EditFault> {
+    if dry_run.0 {
+        let store = read_store(rt, alloc, old)?;
+        let table = larger_table(alloc, store.table(), slots)?;
+        return Ok(counts_of(0, store.table(), &table));
+    }
+    let store = open_store(rt, alloc, old)?;
+    let table = larger_table(alloc, store.table(), slots)?;
+    let counts = counts_of(0, store.table(), &table);
+    let (disk, made) = create(rt, new, slots)?;
+    match grow_into(alloc, store, table, disk) {
+        Ok(_) => Ok(counts),
+        Err(NotGrown::NotMade {
+            old: _,
+            disk,
+            refusal,
+        }) => Err(remove_new(rt, made, disk, FileFault::Refused(refusal)).into()),
+        Err(NotGrown::NotClosed { .. }) => Err(EditFault::NotClosed),
+    }
+}
+
+// Why nothing was changed.
+#[derive(Drop)]
+enum NotDone {
+    Rows(Vec<FaultyRow>),
+    Other(EditFault),
+}
+
+impl From<EditFault> for NotDone {
+    fn from(fault: EditFault) -> Self {
+        NotDone::Other(fault)
+    }
+}
+
+impl From<Refused> for NotDone {
+    fn from(refused: Refused) -> Self {
+        match refused {
+            Refused::Rows(faulty) => NotDone::Rows(faulty),
+            Refused::OutOfMemory => NotDone::Other(Refusal::OutOfMemory.into()),
+        }
+    }
+}
+
+// Makes the changes of a list.
+fn change_by_list<R: Files<File = File>>(
+    rt: &R,
+    alloc: Global,
+    csv: &str,
+    list: &DeviceList,
+    file: &str,
+    dry_run: DryRun,
+) -> Result<Counts, EditFault> {
+    match change_file(rt, alloc, file, list.changes.as_slice(), dry_run) {
+        Ok(counts) => Ok(counts),
+        Err(NotDone::Rows(faulty)) => Err(rows_fault(alloc, csv, list, faulty.as_slice())),
+        Err(NotDone::Other(fault)) => Err(fault),
+    }
+}
+
+// Makes changes in the store in a file, all of them or none.
+fn change_file<R: Files<File = File>>(
+    rt: &R,
+    alloc: Global,
+    file: &str,
+    rows: &[Change],
+    dry_run: DryRun,
+) -> Result<Counts, NotDone> {
+    if dry_run.0 {
+        return try_changes(rt, alloc, file, rows);
+    }
+    let store = open_store(rt, alloc, file)?;
+    let before = Waiting::of(store.table());
+    match with_changes(alloc, store, rows) {
+        Ok(store) => Ok(before.counts(rows.len(), store.table())),
+        Err(NotChanged::Rows(_, refused)) => Err(refused.into()),
+        Err(NotChanged::Store(_, refusal)) => Err(NotDone::Other(refusal.into())),
+    }
+}
+
+// Finds out what changes would do.
+fn try_changes<R: Files<File = File>>(
+    rt: &R,
+    alloc: Global,
+    file: &str,
+    rows: &[Change],
+) -> Result<Counts, NotDone> {
+    let store = read_store(rt, alloc, file)?;
+    let table = changed_table(alloc, store.table(), rows)?;
+    Ok(counts_of(rows.len(), store.table(), &table))
+}
+
+// Makes a store of a table in a new file. If that fails, there is no such file.
+fn make<R: Files<File = File>>(
+    rt: &R,
+    alloc: Global,
+    file: &str,
+    table: Table,
+) -> Result<(), EditFault> {
+    let (disk, made) = create(rt, file, table.slots())?;
+    match establish_back(alloc, disk, table, 0) {
+        Ok(_) => Ok(()),
+        Err((disk, refusal)) => Err(remove_new(rt, made, disk, FileFault::Refused(refusal)).into()),
+    }
+}
+
+fn larger_table(alloc: Global, table: &Table, slots: Slots) -> Result<Table, EditFault> {
+    match grown_table(alloc, table, slots) {
+        Ok(table) => Ok(table),
+        Err(GrowRefused::NotMore) => Err(EditFault::NotMore(table.slots().get())),
+        Err(GrowRefused::OutOfMemory) => Err(Refusal::OutOfMemory.into()),
+    }
+}
+
+// The store in a file, for reading alone.
+fn read_store<R: Files<File = File>>(
+    rt: &R,
+    alloc: Global,
+    file: &str,
+) -> Result<Store<ReadOnly<FileDisk>>, EditFault> {
+    Ok(open_copy(rt, alloc, file)?)
+}
+
+// The store in a file.
+fn open_store<R: Files<File = File>>(
+    rt: &R,
+    alloc: Global,
+    file: &str,
+) -> Result<Store<FileDisk>, EditFault> {
+    match FileDisk::open(rt, file) {
+        Ok(disk) => Ok(open(alloc, disk)?),
+        Err(_) => Err(FileFault::File.into()),
+    }
+}
+
+// What a table has that a change may end.
+#[derive(Clone, Copy)]
+struct Waiting {
+    sessions: usize,
+    items: usize,
+}
+
+impl Waiting {
+    fn of(table: &Table) -> Self {
+        let with_session = |device: &&Device| device.activation.current().is_some();
+        Waiting {
+            sessions: table.devices().iter().filter(with_session).count(),
+            items: waiting_items(table),
+        }
+    }
+
+    // What a command did whose store had this before, and has this table now.
+    fn counts(self, changed: usize, table: &Table) -> Counts {
+        let now = Waiting::of(table);
+        Counts {
+            changed,
+            devices: table.devices().len(),
+            slots: table.slots().get(),
+            sessions_ended: self.sessions.saturating_sub(now.sessions),
+            items_dropped: self.items.saturating_sub(now.items),
+        }
+    }
+}
+
+fn counts_of(changed: usize, before: &Table, after: &Table) -> Counts {
+    Waiting::of(before).counts(changed, after)
+}
+
+// The faulty lines of a list.
+fn rows_fault(alloc: Global, csv: &str, list: &DeviceList, rows: &[FaultyRow]) -> EditFault {
+    match list.faulty_lines(alloc, rows) {
+        Ok(lines) => list_fault(alloc, csv, lines.as_slice()),
+        Err(_) => Refusal::OutOfMemory.into(),
+    }
+}
+
+fn refused_list(alloc: Global, csv: &str, list: &DeviceList, refused: Refused) -> EditFault {
+    match refused {
+        Refused::Rows(faulty) => rows_fault(alloc, csv, list, faulty.as_slice()),
+        Refused::OutOfMemory => Refusal::OutOfMemory.into(),
+    }
+}
+
+// The devices that can't be retired, a line each.
+fn retire_text(
+    alloc: Global,
+    dev_euis: &[Eui],
+    rows: &[FaultyRow],
+) -> Result<String, AllocError> {
+    let mut text = String::new(alloc);
+    for row in rows {
+        if !text.is_empty() {
+            text.push_str(NEXT_LINE)?;
+        }
+        let (dev_eui, fault) = (dev_euis.get(row.row), row_text(&row.fault));
+        if let Some(dev_eui) = dev_eui {
+            let line = format!(in alloc; "{dev_eui}: {fault}")?;
+            text.push_str(line.as_str())?;
+        }
+    }
+    Ok(text)
+}
+
+fn retire_fault(alloc: Global, dev_euis: &[Eui], rows: &[FaultyRow]) -> EditFault {
+    match retire_text(alloc, dev_euis, rows) {
+        Ok(text) => EditFault::List(text),
+        Err(_) => Refusal::OutOfMemory.into(),
+    }
+}

@@ -1,0 +1,157 @@
+// Tables that replace a store's own, and stores that are closed.
+use disk::{Image, MemDisk, Sim};
+use lw_types::Refusal;
+use sessions::Table;
+use std::alloc::Global;
+use store::{Store, establish_back};
+use test_stores::devices_under_test::{idle_device, new_table};
+use test_stores::stores_under_test::{LEN, blank, crashed};
+
+// The number of the last decision of the stores.
+const SEQ: u64 = 7;
+
+// A table of this number of devices.
+fn table_of(alloc: Global, count: u16) -> Result<Table, Refusal> {
+    let mut table = new_table(alloc, 8)?;
+    for slot in 0..count {
+        table.put(slot, idle_device(alloc, u64::from(slot))?)?;
+    }
+    Ok(table)
+}
+
+// A store of one device. Its live area is the second one, and the first one is closed.
+fn store_of_one(alloc: Global) -> Result<Store<MemDisk>, Refusal> {
+    match establish_back(alloc, blank(alloc, LEN)?, table_of(alloc, 1)?, SEQ) {
+        Ok(store) => Ok(store),
+        Err((_, refusal)) => Err(refusal),
+    }
+}
+
+// The store with a table of this number of devices in place of its own, or its disk if that fails.
+fn replaced(
+    alloc: Global,
+    store: Store<MemDisk>,
+    count: u16,
+) -> Result<Store<MemDisk>, (MemDisk, Refusal)> {
+    let table = match table_of(alloc, count) {
+        Ok(table) => table,
+        Err(refusal) => return Err((store.close(), refusal)),
+    };
+    let is_alike =
+        table.net_id() == store.table().net_id() && table.slots() == store.table().slots();
+    if !is_alike {
+        return Err((store.close(), Refusal::WrongSize));
+    }
+    store.replace(alloc, table)
+}
+
+// The number of devices and the number that are found after a crash to this image, if the table of
+// a store with this number of devices is replaced by one of one device more, by this number of
+// calls, and the next one fails.
+fn cut(alloc: Global, before: u16, calls: u64, image: &Image) -> Result<(usize, u64), Refusal> {
+    let mut store = store_of_one(alloc)?;
+    if before == 2 {
+        store = match replaced(alloc, store, 2) {
+            Ok(store) => store,
+            Err((_, refusal)) => return Err(refusal),
+        };
+    }
+    store.arm(calls.saturating_add(1));
+    let mut disk = match replaced(alloc, store, before.saturating_add(1)) {
+        Ok(store) => store.close(),
+        Err((disk, Refusal::DeviceFailed)) => disk,
+        Err((_, refusal)) => return Err(refusal),
+    };
+    disk.arm(u64::MAX);
+    crashed(alloc, disk, image)
+}
+
+// The image that has the low 8 bits of each position.
+fn positions(alloc: Global) -> Result<Image, Refusal> {
+    let mut bytes = Vec::new(alloc);
+    for position in 0..LEN {
+        bytes.push((position % 256) as u8)?;
+    }
+    Ok(Image::Bytes(bytes))
+}
+
+// How many devices are found after this number of calls, in the old bytes, in the new ones, in open
+// gates and in the low 8 bits of the positions. The other area is closed: the new table is written,
+// synced, its gate is opened, and that is synced.
+const CUTS_OF_FOUR: &[(u64, [usize; 4])] = &[
+    (0, [1, 1, 1, 1]),
+    (1, [1, 1, 1, 1]),
+    // A failed write leaves the old byte, and the gate of open bytes is open.
+    (2, [1, 1, 2, 1]),
+    (3, [1, 2, 2, 1]),
+    (4, [2, 2, 2, 2]),
+];
+
+// The same if the other area is open: it is closed, and that is synced, first.
+const CUTS_OF_SIX: &[(u64, [usize; 4])] = &[
+    (0, [2, 2, 2, 2]),
+    (1, [2, 2, 2, 2]),
+    (2, [2, 2, 2, 2]),
+    (3, [2, 2, 2, 2]),
+    (4, [2, 2, 3, 2]),
+    (5, [2, 3, 3, 2]),
+    (6, [3, 3, 3, 3]),
+];
+
+// Whether each of these is found.
+fn are_found(alloc: Global, before: u16, cuts: &[(u64, [usize; 4])]) -> bool {
+    let positions = positions(alloc).unwrap_or(Image::Old);
+    let images = [&Image::Old, &Image::New, &Image::Fill(0xA5), &positions];
+    for (calls, counts) in cuts {
+        for (image, count) in images.iter().zip(counts) {
+            if cut(alloc, before, *calls, image) != Ok((*count, SEQ)) {
+                return false;
+            }
+        }
+    }
+    true
+}
+
+#[test]
+fn a_table_that_is_cut_is_the_old_one_or_the_new_one(rt: HostRuntime) {
+    assert!(rt; are_found(rt.alloc(), 1, CUTS_OF_FOUR));
+    assert!(rt; are_found(rt.alloc(), 2, CUTS_OF_SIX));
+}
+
+// What is found after a crash to this image, if a store is closed by this number of calls, and the
+// next one fails.
+fn cut_closing(alloc: Global, calls: u64, image: &Image) -> Result<(usize, u64), Refusal> {
+    let mut store = store_of_one(alloc)?;
+    store.arm(calls.saturating_add(1));
+    let mut disk = match store.shut() {
+        Ok(disk) => disk,
+        Err((disk, Refusal::DeviceFailed)) => disk,
+        Err((_, refusal)) => return Err(refusal),
+    };
+    disk.arm(u64::MAX);
+    crashed(alloc, disk, image)
+}
+
+// Whether the store is found after this number of calls, in the same images.
+const CUTS_OF_CLOSING: &[(u64, [bool; 4])] = &[
+    (0, [true, true, true, false]),
+    (1, [true, false, true, false]),
+    (2, [false, false, false, false]),
+];
+
+#[test]
+fn a_store_that_is_closed_is_whole_or_none(rt: HostRuntime) {
+    let alloc = rt.alloc();
+    let positions = positions(alloc).unwrap_or(Image::Old);
+    let images = [&Image::Old, &Image::New, &Image::Fill(0xA5), &positions];
+    for (calls, are_whole) in CUTS_OF_CLOSING {
+        for (image, is_whole) in images.iter().zip(are_whole) {
+            let wanted = if *is_whole {
+                Ok((1, SEQ))
+            } else {
+                Err(Refusal::NotFormatted)
+            };
+            assert!(rt; cut_closing(alloc, *calls, image) == wanted, "{calls} calls");
+        }
+    }
+}
