@@ -20,7 +20,7 @@ from bozintar.counts import Counts, Metric
 from bozintar.lasting import CLOSED, LASTING, Link
 from bozintar.logs import Seldom, warn
 
-from .routes import Routes, Store
+from .routes import STORES_HELP, Routes, Store
 
 COUNTED = {
     "nowhere": "frames that are for no store",
@@ -269,10 +269,7 @@ def let_open_files() -> None:
 
 def add_words(options: words.Words, is_alone: bool = False) -> None:
     """The options about many stores; `is_alone` if there is no other way to the network."""
-    text = (
-        "the stores, a line NAME NETID HOST:PORT each, and - for HOST:PORT while nobody serves one"
-    )
-    options.add_argument("--stores", metavar="FILE", required=is_alone, help=text)
+    options.add_argument("--stores", metavar="FILE", required=is_alone, help=STORES_HELP)
     options.add_argument(
         "--devices",
         metavar="FILE",

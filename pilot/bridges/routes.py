@@ -26,6 +26,7 @@ MOST_NET_ID = 0x3F
 # joins that a device may have been granted since its store was listed; and how old a list may be,
 # in seconds
 AHEAD, OLDEST = 8, 600.0
+STORES_HELP = "the stores, a line NAME NETID HOST:PORT each, and - for HOST:PORT of an unserved one"
 NAME = re.compile(r"[0-9A-Za-z_][0-9A-Za-z_.-]{0,62}")
 NET_ID = re.compile(r"[0-9A-Fa-f]{6}")
 NUMBER = re.compile(r"[0-9]{1,8}")

@@ -51,13 +51,6 @@ class Hubbed:
 
 
 @pytest.fixture
-def stores(parts: Parts) -> Iterator[Stores]:
-    """Two stores, each with a NetID of its own."""
-    with Stores(parts, d00=0, d01=1) as made:
-        yield made
-
-
-@pytest.fixture
 def hubbed(parts: Parts, stores: Stores) -> Iterator[Hubbed]:
     """A bridge, which isn't started yet."""
     made = Hubbed(parts, stores)

@@ -3,7 +3,6 @@ played."""
 
 import signal
 import sys
-from collections.abc import Iterator
 from typing import Any
 
 import pytest
@@ -62,10 +61,9 @@ class Routed:
 
 
 @pytest.fixture
-def routed(parts: Parts) -> Iterator[Routed]:
+def routed(parts: Parts, stores: Stores) -> Routed:
     """Two stores, and a router that isn't started yet."""
-    with Stores(parts, d00=0, d01=1) as stores:
-        yield Routed(parts, stores)
+    return Routed(parts, stores)
 
 
 def test_looks_like_one(routed: Routed) -> None:

@@ -127,8 +127,7 @@ def test_files(read: Callable, text: str, due: Any, tmp_path: Path) -> None:
 @pytest.fixture
 def made(tmp_path: Path) -> Routes:
     """Three stores, two of one NetID, with devices."""
-    files = [written(tmp_path, "stores", STORES), written(tmp_path, "devices", DEVICES)]
-    return Routes(*files)
+    return Routes(written(tmp_path, "stores", STORES), written(tmp_path, "devices", DEVICES))
 
 
 @table("name, frame, due", FRAMES)
@@ -143,10 +142,10 @@ def test_without_devices(tmp_path: Path) -> None:
     assert found.names(join(FIRST), NEAR) == ["d00", "d01", "d02"]
 
 
-def test_hearing(tmp_path: Path) -> None:
+def test_hearing(made: Routes, tmp_path: Path) -> None:
     """A gateway with a line hears for the stores of its line; any other one for all."""
-    files = [written(tmp_path, "stores", STORES), written(tmp_path, "devices", DEVICES)]
-    found = Routes(*files, written(tmp_path, "hearing", f"{NEAR} d02 d01\n"))
+    hearing = written(tmp_path, "hearing", f"{NEAR} d02 d01\n")
+    found = Routes(str(tmp_path / "stores"), str(tmp_path / "devices"), hearing)
     assert found.names(uplink(0x00002001), NEAR) == ["d02"]
     assert found.names(uplink(0x00002001), FAR) == ["d00", "d02"]
     assert found.names(join(FIRST), NEAR) == []
@@ -155,8 +154,8 @@ def test_hearing(tmp_path: Path) -> None:
 @pytest.fixture
 def listed(tmp_path: Path) -> Routes:
     """Stores of which one is listed."""
-    files = [written(tmp_path, "stores", STORES), None, None]
-    found = Routes(*files, written(tmp_path, "sessions", LISTED))
+    sessions = written(tmp_path, "sessions", LISTED)
+    found = Routes(written(tmp_path, "stores", STORES), sessions=sessions)
     asyncio.run(found.look())
     return found
 
