@@ -17,7 +17,7 @@ from typing import Any
 
 from bozintar import wire, words
 from bozintar.counts import Counts, Metric
-from bozintar.lasting import CLOSED, LASTING, Link
+from bozintar.lasting import LASTING, Link
 from bozintar.logs import Seldom, warn
 
 from .routes import STORES_HELP, Routes, Store
@@ -146,26 +146,31 @@ class Hub:
 
     async def listen(self, store: Store, eui: str, spoke: Spoke) -> None:
         """Gives on what a store sends, until the link ends and no copy waits for the next one."""
-        link, (pause, longest) = spoke.link, PAUSES
-        while True:
-            begun, why = self.clock(), CLOSED
-            try:
-                async for content in link.of_one():
-                    self.take(store, eui, content)
-            except (OSError, asyncio.TimeoutError, wire.NoMessage) as fault:
-                why = str(fault) or "nothing answers"
-                text = f"store {store.name}: no link to {link.address}: {why}"
-                self.seldom.warn((store.name, why), text)
+        pause, longest = PAUSES
+        try:
+            await self.listen_once(store, eui, spoke.link)
+            while spoke.link.early and not spoke.link.is_ending:
+                await asyncio.sleep(pause)
+                pause = min(2 * pause, longest)
+                await self.listen_once(store, eui, spoke.link)
+        finally:
+            spokes = self.stores.get(store.name)
+            if spokes and spokes.links.get(eui) is spoke:
+                del spokes.links[eui]
+
+    async def listen_once(self, store: Store, eui: str, link: Link) -> None:
+        """Opens a link, and gives on what comes over it."""
+        begun = self.clock()
+        try:
+            async for content in link.of_one():
+                self.take(store, eui, content)
             lasted = self.clock() - begun > LASTING
-            self.counts.add("closed_soon", why == CLOSED and not lasted and not link.is_ending)
-            self.catch_up(link)
-            if link.is_ending or not link.early:
-                break
-            await asyncio.sleep(pause)
-            pause = min(2 * pause, longest)
-        spokes = self.stores.get(store.name)
-        if spokes and spokes.links.get(eui) is spoke:
-            del spokes.links[eui]
+            self.counts.add("closed_soon", not lasted and not link.is_ending)
+        except (OSError, asyncio.TimeoutError, wire.NoMessage) as fault:
+            why = str(fault) or "nothing answers"
+            text = f"store {store.name}: no link to {link.address}: {why}"
+            self.seldom.warn((store.name, why), text)
+        self.catch_up(link)
 
     def take(self, store: Store, eui: str, content: bytes) -> None:
         """A downlink of a store, for the gateway of its link and no other."""

@@ -54,4 +54,4 @@ def entry(line: str) -> tuple[str, Named]:
 def read(file: str) -> dict[str, Named]:
     """The gateways of a file by their EUIs; # begins a comment. A `ValueError` says which line is
     wrong."""
-    return lines.table(file, entry)
+    return lines.read(lines.table(file, entry))

@@ -3,9 +3,9 @@ which. No state is kept: a store refuses a frame of a device that it doesn't hav
 docs/FORMATS.md), and nothing of that frame becomes durable."""
 
 import argparse
-import asyncio
 import os
 import re
+import sys
 import time
 from collections.abc import Callable
 from dataclasses import dataclass
@@ -15,6 +15,7 @@ from bozintar.logs import Seldom, log
 from bozintar.words import EUI, Address
 
 from . import lines
+from .lines import Reading
 
 # the first bytes of uplinks and of Join-Requests, and their lengths
 UPLINKS, SHORTEST_UPLINK = (0x40, 0x80), 12
@@ -50,7 +51,7 @@ def name_of(word: str) -> str:
     """The name of a store."""
     if not NAME.fullmatch(word):
         raise ValueError(f"{word[:70]!a} is no name of a store")
-    return word
+    return sys.intern(word)  # half a million devices have one of some names
 
 
 def eui_of(word: str) -> str:
@@ -75,15 +76,15 @@ def store_of(line: str) -> tuple[str, Store]:
     return name, Store(name_of(name), int(net_id, 16), address)
 
 
-def read_stores(file: str) -> dict[str, Store]:
+def read_stores(file: str) -> Reading[dict[str, Store]]:
     """The stores of a file, by their names."""
-    found = lines.table(file, store_of)
+    found = yield from lines.table(file, store_of)
     if not found:
         raise ValueError(f"{file} has no store")
     return found
 
 
-def read_devices(file: str) -> dict[bytes, str]:
+def read_devices(file: str) -> Reading[dict[bytes, str]]:
     """The names of the stores that devices are in, of a file of lines DEVEUI NAME."""
     found: dict[bytes, str] = {}
 
@@ -95,7 +96,7 @@ def read_devices(file: str) -> dict[bytes, str]:
         if found.setdefault(device, name) != name:
             raise ValueError(f"{eui} is in {found[device]}, too")
 
-    lines.read(file, take)
+    yield from lines.each(file, take)
     return found
 
 
@@ -105,12 +106,12 @@ def hearing_of(line: str) -> tuple[str, frozenset[str]]:
     return eui_of(eui), frozenset(map(name_of, names))
 
 
-def read_hearing(file: str) -> dict[str, frozenset[str]]:
+def read_hearing(file: str) -> Reading[dict[str, frozenset[str]]]:
     """The stores whose devices a gateway may hear, of a file, by the gateway's EUI."""
     return lines.table(file, hearing_of)
 
 
-def read_sessions(file: str) -> Sessions:
+def read_sessions(file: str) -> Reading[Sessions]:
     """The JoinNonces of the devices of each store by their slots: the lines of `lnsd devices` or
     `lnsd list`, each after its store's name."""
     found: Sessions = {}
@@ -127,7 +128,7 @@ def read_sessions(file: str) -> Sessions:
             raise ValueError("a slot or a JoinNonce is no number")
         of_store[int(slot)] = int(granted), None if current == "-" else int(current)
 
-    lines.read(file, take)
+    yield from lines.each(file, take)
     return found
 
 
@@ -136,7 +137,11 @@ class File(Generic[T]):
     or is gone, changes nothing."""
 
     def __init__(
-        self, path: str | None, read: Callable[[str], T], content: T, is_logged: bool = True
+        self,
+        path: str | None,
+        read: Callable[[str], Reading[T]],
+        content: T,
+        is_logged: bool = True,
     ):
         self.path, self.reader, self.content = path, read, content
         self.is_logged = is_logged
@@ -155,12 +160,11 @@ class File(Generic[T]):
         """Reads it, if there is one. An `OSError` or a `ValueError` says what is wrong with it."""
         if self.path:
             stamp = self.now()
-            self.content = self.reader(self.path)
+            self.content = lines.read(self.reader(self.path))
             self.stamp = stamp
 
     async def look(self) -> bool:
-        """Reads the file if it has changed, in a thread: half a million lines take a second.
-        Whether the content has changed."""
+        """Reads the file if it has changed; whether the content has."""
         if not self.path:
             return False
         stamp = self.now()
@@ -170,7 +174,7 @@ class File(Generic[T]):
             return False
         self.stamp = stamp
         try:
-            self.content = await asyncio.to_thread(self.reader, self.path)
+            self.content = await lines.read_on(self.reader(self.path))
         except (OSError, ValueError) as why:
             self.seldom.warn(str(why), f"{why}: the file isn't read, and what it had goes on")
             return False

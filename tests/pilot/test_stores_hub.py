@@ -14,6 +14,7 @@ from .field import GATEWAYS, counts_in
 from .networks import Network
 from .parts import Parts, run
 from .played import FIRST
+from .stations import Station
 from .stores import Stores, downlink_to, frame_of, join_request, uplink
 
 ONE, OTHER = GATEWAYS[:2]
@@ -78,6 +79,24 @@ def test_link_on_demand(hubbed: Hubbed, stores: Stores) -> None:
     hubbed.hears(uplink(0x3F))
     Air([gateway], []).go_on(0.2)
     assert hubbed.counted("opened", "nowhere", "downlinks", "out_of_time") == [1, 1, 1, 0]
+
+
+def test_by_mqtt(parts: Parts, stores: Stores) -> None:
+    """The same for gateways behind ChirpStack's gateway bridge."""
+    parts.broker().start("running")
+    words = ("--broker", f"{HOST}:{parts.broker_port}", "--stores", stores.file, "--gateway", ONE)
+    part = parts.own("gateways-mqtt", *words).start("connected to")
+    with Station(ONE, parts.broker_port) as gateway:
+        air = Air([gateway], [])
+        gateway.hears(uplink(1))
+        link = stores.link("d01")
+        content = link.hears() or b""
+        assert frame_of(content, ONE) == uplink(1)
+        link.say(downlink_to(content, ANSWER))
+        assert air.go_on(10, lambda: gateway.told)
+        stores.links_none("d00")
+    assert part.end() == 0
+    assert part.said().count("opened 1") == 1
 
 
 def test_link_that_ended(hubbed: Hubbed, stores: Stores) -> None:

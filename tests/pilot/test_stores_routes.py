@@ -11,7 +11,7 @@ from typing import Any
 
 import pytest
 from bozintar.words import Address
-from bridges import routes
+from bridges import lines, routes
 from bridges.routes import Routes, Store
 
 from .rows import table
@@ -119,7 +119,7 @@ def test_files(read: Callable, text: str, due: Any, tmp_path: Path) -> None:
     """What is read of a file, or what is wrong with it, and in which line."""
     file = written(tmp_path, "file", text)
     try:
-        assert read(file) == due
+        assert lines.read(read(file)) == due
     except ValueError as why:
         assert isinstance(due, str) and str(why).startswith(f"{file}{due}"), str(why)
 
