@@ -8,7 +8,7 @@ from pathlib import Path
 from typing import Any
 
 import pytest
-from bozintar.processes import HOST, Process, await_that
+from bozintar.processes import HOST, Process, await_that, free_port
 
 from .field import APPLICATION
 from .networks import End, Network
@@ -149,6 +149,26 @@ def test_unknown_store(applied: Applied) -> None:
         applied.links[name].tell("refused 7")
     event = applied.events("log", SECOND)[0]
     assert event["code"] == "UNKNOWN_DEVICE" and "store" not in event["deviceInfo"]
+
+
+def test_unknown_store_at_the_start(applied: Applied, stores: Stores) -> None:
+    """A command that comes before all stores are linked, for a device of which nobody knows the
+    store, waits for them."""
+    late = free_port()
+    stores.write(d01="-")
+    applied.start()
+    stores.write(d01=f"{HOST}:{late}")
+    await_that("it is tried", lambda: applied.part and applied.part.has_said("no link to"))
+    applied.dashboard.down(FIRST, **ITEM, id="1")
+    applied.hear_nothing("d00")
+    with socket.create_server((HOST, late)) as listener:
+        listener.settimeout(20)
+        with listener.accept()[0] as other:
+            link = End(other)
+            assert applied.links["d00"].asked()[:2] == ["queue", FIRST]
+            applied.links["d00"].tell("refused 7")
+            assert link.hears() == bytes([2, APPLICATION])
+            assert link.asked()[:2] == ["queue", FIRST]
 
 
 def test_store_that_is_away(applied: Applied, stores: Stores) -> None:
