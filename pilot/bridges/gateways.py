@@ -254,7 +254,7 @@ def add_words(options: words.Words, power: int, unit: str = "dBm") -> None:
         "--network",
         type=words.Address.read,
         metavar="HOST:PORT",
-        help="where lnsd run listens",
+        help="where lnsd run listens; not used with --stores",
     )
     hub.add_words(options)
     options.add_argument(

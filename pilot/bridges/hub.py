@@ -305,8 +305,9 @@ def add_words(options: words.Words, is_alone: bool = False) -> None:
 
 
 def read_words(options: words.Words, given: argparse.Namespace) -> None:
-    """Either one server is named, or a file of stores, which is read."""
-    if bool(given.network) == bool(given.stores):
+    """One server is named, or a file of stores, which is read. With both, as a unit has them for
+    which the operator sets --stores, the stores count."""
+    if not (given.network or given.stores):
         options.error("either --network or --stores is needed")
     for name in ("devices", "hearing", "sessions"):
         if getattr(given, name) and not given.stores:

@@ -35,7 +35,8 @@ class Applied:
 
     def start(self, *words: Any) -> Process:
         """Starts it; its links."""
-        said: tuple = ("--stores", self.stores.file)
+        # an address that isn't used, as in a unit
+        said: tuple = ("--network", "h:1", "--stores", self.stores.file)
         said += ("--broker", f"{HOST}:{self.parts.broker_port}")
         said += ("--application", str(APPLICATION), "--counts", self.counts)
         self.part = self.parts.own("applications-mqtt", *said, *words).start("connected to the")
@@ -265,7 +266,7 @@ def test_asks(applied: Applied) -> None:
 
 # words, and what is said of them
 WRONG: tuple = (
-    (("--network", "h:1", "--stores", "stores"), "either --network or --stores is needed"),
+    ((), "--network or --stores, --broker and --application are needed"),
     (("--network", "h:1", "--claims", "claims"), "--claims needs --stores"),
     (("--stores", "stores", "--devices", "claims"), "with --stores, --devices needs --claims"),
     (("--stores", "claims"), "claims, line 1: it isn't NAME NETID HOST:PORT"),

@@ -244,7 +244,6 @@ def test_numbers_of_stores(hubbed: Hubbed, stores: Stores) -> None:
 # words, and what is said of them
 WRONG: tuple = (
     ((), "either --network or --stores is needed"),
-    (("--network", "h:1", "--stores", "stores"), "either --network or --stores is needed"),
     (("--network", "h:1", "--devices", "devices"), "--devices needs --stores"),
     (("--stores", "stores", "--names", 64), "64 is no number from 1 to 63"),
     (("--stores", "wrong"), "wrong, line 1: it isn't NAME NETID HOST:PORT"),

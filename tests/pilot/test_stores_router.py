@@ -21,6 +21,12 @@ ONE, OTHER = GATEWAYS[:2]
 GREETING = oracle.message(b"\0" + bytes.fromhex(ONE))
 HOW = (868_100_000, 5, 30, -95, 50_000)
 SECONDS = 20.0
+# lets the program open 64 files at first
+FEW_FILES = """import resource
+resource.setrlimit(resource.RLIMIT_NOFILE, (64, resource.getrlimit(resource.RLIMIT_NOFILE)[1]))
+"""
+# copies that are more than fit between a hub and a store that doesn't read
+MANY = 20_000
 # what a link says that isn't read further: by docs/FORMATS.md
 FAULTS: tuple = (
     ("no greeting", oracle.copy_message(ONE, HOW, uplink(0))),
@@ -41,9 +47,9 @@ class Routed:
         self.counts = parts.file("router.prom")
         self.part: Process | None = None
 
-    def start(self, *words: Any, after: str = "") -> Process:
+    def start(self, *words: Any, before: str = "", after: str = "") -> Process:
         """Starts it, with something of it changed."""
-        program = [sys.executable, "-c", CHANGED, PILOT / "router", "", after]
+        program = [sys.executable, "-c", CHANGED, PILOT / "router", before, after]
         at = ("--listen", f"{HOST}:{self.at[1]}", "--stores", self.stores.file)
         said = (*at, "--counts", self.counts, *words)
         self.part = self.parts.process("router", *program, *said).start("listens on")
@@ -170,3 +176,28 @@ def test_signal_without_a_list(routed: Routed) -> None:
         gateway.hands_in(uplink(0), Copy(ONE, *HOW))
         assert routed.stores.link("d00").hears()
     assert part.end() == 0
+
+
+def test_store_that_hangs(routed: Routed) -> None:
+    """What is for a store that doesn't read is dropped and counted, and other stores get theirs."""
+    routed.start()
+    with routed.gateway() as gateway:
+        gateway.hands_in(uplink(0), Copy(ONE, *HOW))
+        hangs = routed.stores.link("d00")
+        for number in range(MANY):
+            gateway.hands_in(uplink(0, number.to_bytes(240, "big")), Copy(ONE, *HOW))
+        gateway.hands_in(uplink(1), Copy(ONE, *HOW))
+        store = routed.stores.link("d01", SECONDS)
+        assert frame_of(store.hears(SECONDS), ONE) == uplink(1)
+        hangs.close()
+    opened, unlinked, caught_up = routed.counted("opened", "unlinked", "caught_up")
+    assert opened >= 2 and unlinked - caught_up > 1000
+
+
+def test_many_files(routed: Routed) -> None:
+    """Each link is an open file, so the program may open as many as the system lets it."""
+    part = routed.start(before=FEW_FILES)
+    with open(f"/proc/{part.pid}/limits", encoding="ascii") as limits:
+        line = next(line for line in limits if line.startswith("Max open files"))
+    soft, hard = line.split()[3:5]
+    assert soft == hard != "64"

@@ -2,6 +2,7 @@
 commands through all of it; more gateways than names; and one gateway that comes by two bridges in
 turn."""
 
+import asyncio
 import base64
 import time
 from collections import Counter
@@ -12,8 +13,10 @@ from bozintar import load, wire
 from bozintar.forwarders import Air, Forwarder
 from bozintar.links import Application, Gateway, Silent
 from bozintar.meters import Meter
+from bozintar.network import NET_ID
 from bozintar.processes import HOST, await_that
 from bozintar.wire import Copy
+from bridges.routes import Routes
 
 from .field import APPLICATION, GATEWAYS, Field, counts_in
 from .store_servers import Servers
@@ -80,6 +83,15 @@ class City(Field):
             are_there = lambda: all(mark in it.acknowledged for mark, it in zip(due, some))
             assert self.air.go_on(LONG, are_there), "all are acknowledged"
 
+    def listed(self) -> Routes:
+        """Routes that have the servers' lists of devices."""
+        programs = self.servers.programs.items()
+        lines = [f"{name} {line}\n" for name, program in programs for line in program.devices()[0]]
+        file = self.servers.file("sessions", "".join(lines))
+        made = Routes(self.servers.stores, sessions=file)
+        asyncio.run(made.look())
+        return made
+
     def stores_of(self, kind: str, count: int) -> Counter[str]:
         """From how many devices of each store events of a kind came, once there are this many;
         each event comes from its own store, once."""
@@ -89,6 +101,11 @@ class City(Field):
         found = {device: body["deviceInfo"]["store"] for device, _, body in events()}
         assert len(events()) == count and found.items() <= due.items()
         return Counter(found.values())
+
+
+def uplink_of(address: int) -> bytes:
+    """The bytes of an uplink of a session that routing looks at."""
+    return b"\x40" + address.to_bytes(4, "little") + bytes(7)
 
 
 @pytest.fixture
@@ -130,6 +147,11 @@ def test_three_stores(city: City) -> None:
     ]
     city.stores_of("up", 6 * EACH)
     assert not [event for event in city.dashboard.events if event[1] == "log"]
+    listed = city.listed()
+    for name, those in city.meters_of.items():
+        for address, _ in map(Meter.session, those):
+            assert listed.may_have(name, uplink_of(address))
+            assert not listed.may_have(name, uplink_of(address + 99))
     assert city.gateways.end() == 0
     counts = counts_in(city.counts)
     due = ("unlinked", "crowded", "nowhere", "not_sent", "out_of_time")
@@ -184,6 +206,31 @@ def test_two_bridges_in_turn(servers: Servers) -> None:
             assert taken_over() == number
             assert quiet(application) and taken_over() == number, "nothing is heard"
     application.close()
+
+
+def test_server_that_is_killed(servers: Servers) -> None:
+    """A server is killed and started again. What is heard then goes to it, and other stores get
+    theirs meanwhile."""
+    names, meter = ("d00", "d01"), load.device(0)
+    killed, other = (servers.add(name, net_id, 8, [0]) for name, net_id in zip(names, (NET_ID, 1)))
+    at = servers.router()
+    with Gateway(at, load.gateway_eui(0)) as gateway:
+        for number in range(2):
+            with Application(killed.address or at, 0) as application:
+                frame = meter.uplink(7, load.payload(0, meter.next_up))
+                gateway.hands_in(frame, Copy(gateway.eui, stamp=number))
+                assert application.hears().split(" ")[:4] == [
+                    "up",
+                    meter.dev_eui,
+                    "1",
+                    str(number + 1),
+                ]
+            if not number:
+                killed.kill()
+                gateway.hands_in(uplink_of(1 << 25), Copy(gateway.eui))
+                is_linked = lambda: other.status()["gateways"] == "1"
+                await_that("the other store gets its frame", is_linked)
+                killed.run_on(96, port=killed.address[1] if killed.address else None)
 
 
 def quiet(application: Application) -> bool:
