@@ -24,7 +24,11 @@ PERIOD, ON_THE_WAY, LATE = 5.0, 5.0, 20.0
 # how often a file is written, in seconds
 KEPT = 60.0
 TABLE = "CREATE TABLE IF NOT EXISTS lines (one INTEGER PRIMARY KEY, read REAL)"
-KEEP = "INSERT OR REPLACE INTO lines VALUES (1, ?)"
+READ, KEEP = "SELECT read FROM lines", "INSERT OR REPLACE INTO lines VALUES (1, ?)"
+# with many stores each has a moment of its own
+STORES = "CREATE TABLE IF NOT EXISTS lines_of_stores (store TEXT PRIMARY KEY, read REAL)"
+READ_STORE = "SELECT read FROM lines_of_stores WHERE store = ?"
+KEEP_STORE = "INSERT OR REPLACE INTO lines_of_stores VALUES (?, ?)"
 
 
 class Ages:
@@ -36,12 +40,16 @@ class Ages:
         link: Link,
         database: sqlite3.Connection | None,
         clock: Callable[[], float] = time.time,
+        store: str = "",
     ):
         self.link, self.database, self.clock = link, database, clock
+        # what finds the moment in the database
+        self.key = (store,) if store else ()
         self.read: float | None = None
         if database:
-            database.execute(TABLE)
-            self.read = next((read for (read,) in database.execute("SELECT read FROM lines")), None)
+            database.execute(STORES if store else TABLE)
+            rows = database.execute(READ_STORE if store else READ, self.key)
+            self.read = next((read for (read,) in rows), None)
         # the link on which it asks; when it asked first, and whether the second answer is due
         self.opened = 0
         self.asked: float | None = None
@@ -87,7 +95,7 @@ class Ages:
         now = self.clock()
         if self.database and self.read and (is_end or not 0 <= now - self.kept < KEPT):
             self.kept = now
-            self.database.execute(KEEP, (self.read,))
+            self.database.execute(KEEP_STORE if self.key else KEEP, (*self.key, self.read))
 
 
 def shown(moment: float) -> str:

@@ -165,10 +165,15 @@ def command_in(topic: str, application: int, body: bytes) -> Command:
 
 class Translator:
     """Makes events of one application's lines. `name` finds the id of an item by its device and its
-    tag."""
+    tag, and `store` the name of a device's store, if there are several stores."""
 
-    def __init__(self, application: int, name: Callable[[str, int], str | None]):
-        self.application, self.name = application, name
+    def __init__(
+        self,
+        application: int,
+        name: Callable[[str, int], str | None],
+        store: Callable[[str], str | None] = lambda _device: None,
+    ):
+        self.application, self.name, self.store = application, name, store
         # the names of devices that have one
         self.devices: dict[str, str] = {}
 
@@ -206,8 +211,8 @@ class Translator:
     def device_info(self, device: str) -> dict:
         """Whose event it is."""
         info = {"applicationId": str(self.application), "devEui": device.lower()}
-        name = self.devices.get(device)
-        return {**info, "deviceName": name} if name else info
+        more = {"deviceName": self.devices.get(device), "store": self.store(device)}
+        return info | {key: text for key, text in more.items() if text}
 
     def up(
         self,

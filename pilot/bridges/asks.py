@@ -13,6 +13,8 @@ from bozintar.logs import log
 REQUESTS = {"provision": ("provisioned", 1), "queue": ("queued", 2), "mac": ("macqueued", 2)}
 LINE = re.compile(r"[0-9A-Za-z -]{1,640}")
 BAD_MESSAGE, UNANSWERED = "refused 51", "unanswered"
+# a device can't be provisioned, since no claim says in which of several stores
+UNCLAIMED = "unclaimed"
 # asks the network for a line, whose answer begins so; None if none came
 Ask = Callable[[str, str], Awaitable[str | None]]
 
@@ -28,7 +30,8 @@ def due_of(line: str) -> str | None:
 
 class Asks:
     """The socket. Each line that comes is asked for, one at a time, and answered by a line: the
-    network's, or `unanswered` if the link ended before it. (It may have been done then.)"""
+    network's, or `unanswered` if the link ended before it. (It may have been done then.) With many
+    stores a device that is claimed for none is answered `unclaimed`."""
 
     def __init__(self, path: str, ask: Ask):
         self.path, self.ask = path, ask

@@ -1,23 +1,25 @@
-"""What bridges of gateways share: which gateways are named, a link for each gateway that isn't
-silent, and the options of their commands."""
+"""What bridges of gateways share: which gateways are named, a way to the network for each gateway
+that isn't silent, and the options of their commands."""
 
 import argparse
 import asyncio
 import signal
 import time
+from collections.abc import Mapping
 from dataclasses import dataclass, field
 from typing import Any, Generic, TypeVar
 
 from bozintar import wire, words
 from bozintar.buckets import Bucket
 from bozintar.counts import COUNTS_HELP, Counts, Metric
-from bozintar.lasting import Link
 from bozintar.logs import Seldom, log, warn
 from bozintar.running import on_signals
 
-from . import named
+from . import hub, named
 from .captures import Capture
+from .hub import Hub
 from .named import Named
+from .ways import ToMany, ToOne, Way
 
 COUNTED = {
     "copies": "frames that were handed to the network",
@@ -36,7 +38,7 @@ COUNTED = {
 }
 # numbers of each gateway, by the names of what a gateway has
 OF_GATEWAYS = {
-    "linked": ("gauge", "whether a gateway has a link"),
+    "linked": ("gauge", "whether a gateway has a link; with --stores, whether it isn't silent"),
     "copies": ("counter", "frames of a gateway that were handed in"),
     "last_copy_seconds": ("gauge", "when a gateway's last frame came, in Unix time"),
     "last_pull_seconds": ("gauge", "when a gateway asked last for downlinks, in Unix time"),
@@ -58,10 +60,9 @@ class Gateway:
     """A gateway that is named."""
 
     named: Named
-    link: Link
-    # when something came of it, and what listens to its link from then on
+    way: Way
+    # when something came of it
     last: float = 0.0
-    work: asyncio.Task | None = None
     bucket: Bucket = field(default_factory=lambda: Bucket(RATE, BURST))
     # frames that were handed in, and when the last one came; and when the gateway asked last for
     # downlinks, in Unix time
@@ -75,12 +76,31 @@ class Gateway:
         return self.named.eui
 
     @property
+    def name(self) -> str:
+        """What lines of the log name it."""
+        return f"gateway {self.eui}"
+
+    @property
     def linked(self) -> bool:
-        """Whether it has a link."""
-        return self.link.writer is not None
+        """What the metric of this name says."""
+        return self.way.is_linked
 
 
 G = TypeVar("G", bound=Gateway)
+
+
+def numbers_of(bridge: str, those: Mapping[str, Any]) -> list[Metric]:
+    """The numbers of gateways by their EUIs."""
+    found = []
+    for name, (kind, text) in OF_GATEWAYS.items():
+        metric = Metric(f"pilot_gateway_{name}", kind, text)
+        for eui, gateway in those.items():
+            number = getattr(gateway, name.removesuffix("_seconds"))
+            # what never came has no time
+            if number or not name.endswith("_seconds"):
+                metric.add(number, bridge=bridge, gateway=eui)
+        found.append(metric)
+    return found
 
 
 class Gateways(Generic[G]):
@@ -96,6 +116,7 @@ class Gateways(Generic[G]):
         self.clock = asyncio.get_running_loop().time
         self.gateways: dict[str, G] = {}
         self.logged: set[str] = set()
+        self.hub = Hub(given, counts, self.bridge, self.take_order) if given.stores else None
         self.name(given.named)
         on_signals((signal.SIGHUP,), self.read_again)
         counts.more = self.numbers
@@ -109,11 +130,17 @@ class Gateways(Generic[G]):
             if eui in self.gateways:
                 self.gateways[eui].named = one
             else:
-                link = Link(f"gateway {eui}", self.given.network, wire.gateway_greeting(eui))
-                self.gateways[eui] = self.kind(one, link)
+                self.gateways[eui] = self.kind(one, self.way(eui))
         self.logged.clear()
-        if len(those) > MOST_LINKED:
+        if len(those) > MOST_LINKED and not self.hub:
             warn(f"{len(those)} gateways are named; the network has {MOST_LINKED} links at a time")
+
+    def way(self, eui: str) -> Way:
+        """A gateway's way to the network."""
+        if self.hub:
+            return ToMany(eui, self.hub)
+        take = lambda content: self.take_order(eui, content)
+        return ToOne(eui, self.given.network, self.counts, take)
 
     def read_again(self) -> None:
         """Reads the list of gateways again. One with a fault is left as it was."""
@@ -128,14 +155,13 @@ class Gateways(Generic[G]):
         log(f"the list is read again: {len(those)} gateways are named")
 
     def awake(self, eui: str) -> G | None:
-        """The gateway of which something came, with its link; or None if it isn't named."""
+        """The gateway of which something came, with its way open; or None if it isn't named."""
         gateway = self.gateways.get(eui)
         if not gateway:
             self.pass_over(eui)
             return None
         gateway.last = self.clock()
-        if not gateway.work or gateway.work.done():
-            gateway.work = asyncio.ensure_future(self.listen(gateway))
+        gateway.way.open()
         return gateway
 
     def pass_over(self, eui: str) -> None:
@@ -152,7 +178,7 @@ class Gateways(Generic[G]):
         if most < count:
             self.counts.add("too_many", count - most)
             text = f"sends more than {RATE} frames a second; the rest is dropped"
-            self.seldom.warn((gateway.eui, "too many"), f"{gateway.link.name} {text}")
+            self.seldom.warn((gateway.eui, "too many"), f"{gateway.name} {text}")
         return most
 
     def hand_in(self, gateway: G, heard: wire.Heard) -> None:
@@ -161,28 +187,22 @@ class Gateways(Generic[G]):
             self.capture.up(heard)
         gateway.copies += 1
         gateway.last_copy = time.time()
-        self.counts.add("copies" if gateway.link.say_soon(heard.message()) else "unlinked")
+        gateway.way.hand_in(heard)
 
     def numbers(self) -> list[Metric]:
-        """The numbers of each gateway."""
-        found = []
-        for name, (kind, text) in OF_GATEWAYS.items():
-            metric = Metric(f"pilot_gateway_{name}", kind, text)
-            for eui, gateway in self.gateways.items():
-                number = getattr(gateway, name.removesuffix("_seconds"))
-                # what never came has no time
-                if number or not name.endswith("_seconds"):
-                    metric.add(number, bridge=self.bridge, gateway=eui)
-            found.append(metric)
-        return found
+        """The numbers of each gateway, and of each store."""
+        stores = list(self.hub.numbers()) if self.hub else []
+        return [*numbers_of(self.bridge, self.gateways), *stores]
 
-    async def listen(self, gateway: G) -> None:
+    def take_order(self, eui: str, content: bytes) -> None:
         """Lets a gateway send what the network says."""
-        async for content in gateway.link.contents():
-            try:
-                self.order(gateway, wire.Downlink.read(content))
-            except wire.NoMessage as why:
-                self.seldom.warn((gateway.eui, "no message"), f"{gateway.link.name}: {why}")
+        gateway = self.gateways.get(eui)
+        if not gateway:
+            return  # it isn't named any more
+        try:
+            self.order(gateway, wire.Downlink.read(content))
+        except wire.NoMessage as why:
+            self.seldom.warn((eui, "no message"), f"{gateway.name}: {why}")
 
     def order(self, gateway: G, downlink: wire.Downlink) -> None:
         """Lets a gateway send a downlink."""
@@ -197,25 +217,30 @@ class Gateways(Generic[G]):
             await asyncio.sleep(LOOK)
             self.tidy()
 
+    async def keep(self) -> None:
+        """What goes on beside the gateways' messages."""
+        kept = [self.look(), self.counts.keep()]
+        await asyncio.gather(*kept, *([self.hub.keep()] if self.hub else []))
+
     def tidy(self) -> None:
-        """Closes the links of gateways that are silent, and counts what links caught up with."""
+        """Closes the ways of gateways that are silent, and hands in what waits."""
         for gateway in self.gateways.values():
-            link = gateway.link
-            link.catch_up()
-            self.counts.add("caught_up", link.caught_up)
-            self.counts.add("closed_soon", link.closed_soon)
-            link.caught_up = link.closed_soon = 0
-            if gateway.work and gateway.last < self.clock() - self.given.silent:
-                warn(f"{link.name} is silent: its link is closed")
+            gateway.way.tidy()
+            if gateway.way.is_open and gateway.last < self.clock() - self.given.silent:
+                warn(f"{gateway.name} is silent: its link is closed")
                 self.counts.add("links_silent")
                 self.close(gateway)
 
     def close(self, gateway: G) -> None:
-        """Closes a gateway's link, if it has one."""
-        if gateway.work:
-            gateway.work.cancel()
-            gateway.work = None
+        """Closes a gateway's way."""
+        gateway.way.close()
         self.sleeps(gateway)
+
+
+def counts_of(prefix: str, helps: dict[str, str], given: Any) -> Counts:
+    """The counts of a bridge, with those of its hub, if it has one."""
+    more = hub.COUNTED if given.stores else {}
+    return Counts(prefix, {**helps, **more}, given.counts)
 
 
 def named_in(euis: list[str], file: str | None) -> dict[str, Named]:
@@ -228,10 +253,10 @@ def add_words(options: words.Words, power: int, unit: str = "dBm") -> None:
     options.add_argument(
         "--network",
         type=words.Address.read,
-        required=True,
         metavar="HOST:PORT",
-        help="where lnsd run listens",
+        help="where lnsd run listens; not used with --stores",
     )
+    hub.add_words(options)
     options.add_argument(
         "--gateway",
         type=words.eui,
@@ -242,6 +267,14 @@ def add_words(options: words.Words, power: int, unit: str = "dBm") -> None:
     )
     text = "gateways, an EUI a line; # begins a comment. SIGHUP has the file read again"
     options.add_argument("--gateways", metavar="FILE", help=text)
+    add_silent(options)
+    add_powers(options, power, unit)
+    add_capture(options)
+    options.add_argument("--counts", metavar="FILE", help=COUNTS_HELP)
+
+
+def add_silent(options: words.Words) -> None:
+    """The option about links that aren't used."""
     options.add_argument(
         "--silent",
         type=words.between(1, 86400),
@@ -249,9 +282,6 @@ def add_words(options: words.Words, power: int, unit: str = "dBm") -> None:
         metavar="SECONDS",
         help="closes a gateway's link if nothing came for this long, 1 to 86400 (120)",
     )
-    add_powers(options, power, unit)
-    add_capture(options)
-    options.add_argument("--counts", metavar="FILE", help=COUNTS_HELP)
 
 
 def add_powers(options: words.Words, power: int, unit: str) -> None:
@@ -291,6 +321,7 @@ def add_capture(options: words.Words) -> None:
 def read_words(options: words.Words) -> argparse.Namespace:
     """What the options say. At least one gateway is named, since a list keeps strangers out."""
     given = options.parse_args()
+    hub.read_words(options, given)
     try:
         given.named = named_in(given.gateway, given.gateways)
     except ValueError as why:

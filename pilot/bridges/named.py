@@ -6,6 +6,8 @@ from typing import Union
 
 from bozintar.words import EUI
 
+from . import lines
+
 Network = Union[ipaddress.IPv4Network, ipaddress.IPv6Network]
 
 
@@ -43,19 +45,13 @@ def named(line: str) -> Named:
     return Named(eui.upper(), tuple(map(network_of, words)))
 
 
+def entry(line: str) -> tuple[str, Named]:
+    """The gateway of a line, by its EUI."""
+    gateway = named(line)
+    return gateway.eui, gateway
+
+
 def read(file: str) -> dict[str, Named]:
     """The gateways of a file by their EUIs; # begins a comment. A `ValueError` says which line is
     wrong."""
-    found: dict[str, Named] = {}
-    with open(file, encoding="utf-8-sig", errors="replace") as lines:
-        for place, line in enumerate(lines, 1):
-            bare = line.partition("#")[0].strip()
-            try:
-                gateway = named(bare) if bare else None
-                if gateway and gateway.eui in found:
-                    raise ValueError(f"{gateway.eui} is listed twice")
-            except ValueError as why:
-                raise ValueError(f"{file}, line {place}: {why}") from None
-            if gateway:
-                found[gateway.eui] = gateway
-    return found
+    return lines.read(lines.table(file, entry))

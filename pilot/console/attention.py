@@ -38,10 +38,11 @@ def problems(network: Network) -> list[Problem]:
 
 def of_programs(network: Network) -> Iterator[Problem]:
     """The server, the broker and the console itself."""
-    if network.is_serving is False:
+    for name in network.away:
         why = "lnsd doesn't run, or the lookout doesn't"
         remedy = "Check systemctl status lnsd bozintar-lookout."
-        yield Problem(GRAVE, "No server answers", why, remedy, "/server")
+        what = f"No server answers for store {name}" if name else "No server answers"
+        yield Problem(GRAVE, what, why, remedy, "/server")
     if not network.is_broker_there:
         why = "Readings don't come until it is back"
         yield Problem(
@@ -64,16 +65,18 @@ def of_gateways(network: Network, now: float) -> Iterator[Problem]:
 
 
 def of_disk(network: Network) -> Iterator[Problem]:
-    """A disk that is slow, and a store that is nearly full."""
+    """A disk that is slow, and stores that are nearly full."""
     slowest = max(value for _, value in network.series("sync_us", SLOW_MINUTES)) // 1000
     if slowest >= SLOW_SYNC:
         what = "The disk is slow"
         why = f"A sync took {slowest} ms in the last hour, so downlinks may come too late"
         yield Problem(WARNING, what, why, 'See "The disk" in OPERATING.', "/server")
-    if network.slots and len(network.devices) > NEARLY_FULL * network.slots:
-        why = f"{len(network.devices)} of {network.slots} slots are taken"
-        remedy = "More devices need another server."
-        yield Problem(NOTE, "The store is nearly full", why, remedy, "/server")
+    counts = network.counts()
+    for name, server in network.servers.items():
+        if server.slots and counts[name] > NEARLY_FULL * server.slots:
+            why = f"{counts[name]} of {server.slots} slots are taken"
+            what = f"The store {name} is nearly full" if name else "The store is nearly full"
+            yield Problem(NOTE, what, why, "More devices need another server.", "/server")
 
 
 def of_devices(network: Network, now: float) -> Iterator[Problem]:

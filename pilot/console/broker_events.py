@@ -17,7 +17,7 @@ TOPICS = ["application/+/device/+/event/+"]
 TOPIC = re.compile(r"application/(1[0-5]|\d)/device/([0-9a-f]{16})/event/([a-z]{2,10})")
 EUI = re.compile(r"[0-9A-F]{16}")
 MOST_PAYLOAD, MOST_TEXT = 10_000, 160
-# more than any store has room for
+# more than any store has room for; of each store
 MOST_DEVICES = 8192
 MOST_COUNTER, MOST_NONCE, MOST_TRIES = 2**32 - 1, 2**24 - 1, 100
 SETTING = (("dr", MOST_RATE), ("txPower", MOST_POWER))
@@ -33,13 +33,22 @@ def take(network: Network, topic: str, payload: bytes) -> None:
     said = fields.table(fields.parsed(payload))
     taker = TAKERS.get(found[3])
     if taker:
-        if found[2].upper() not in network.devices and len(network.devices) >= MOST_DEVICES:
+        most = MOST_DEVICES * len(network.servers)
+        if found[2].upper() not in network.devices and len(network.devices) >= most:
             raise Wrong("too many devices")
         device = network.devices.get(found[2].upper()) or Device(found[2].upper())
+        device.store = device.store or store_of(network, said)
         taker(network, device, said)
         # only what was understood makes a device known
         device.application = found[1]
         network.devices.setdefault(device.eui, device)
+
+
+def store_of(network: Network, said: dict) -> str:
+    """The store of a device, if an event names one that there is."""
+    info = said.get("deviceInfo")
+    name = info.get("store") if isinstance(info, dict) else None
+    return name if isinstance(name, str) and name in network.servers else ""
 
 
 def take_up(network: Network, device: Device, said: dict) -> None:
@@ -61,7 +70,7 @@ def take_up(network: Network, device: Device, said: dict) -> None:
         device.session, device.last_up = session, counter
     device.add(uplink)
     device.update()
-    network.gateway(uplink.gateway).add_best(uplink)
+    network.gateway(uplink.gateway).add_best(uplink, device.store)
     how = (rate, uplink.snr, uplink.rssi, uplink.gateway, hz, copies, size)
     network.kept.add(history.UPLINK, device.eui, session, counter, uplink.came, port, *how)
     counts = (known.first, known.last, known.count)

@@ -97,7 +97,7 @@ def listed(network: Network, query: Query, now: float) -> Listed:
     words = query.text.lower().split()
     sorts: dict[str, list[Device]] = {name: [] for name in FILTERS}
     for device in network.devices.values():
-        text = f"{device.eui} {network.names.get(device.eui, '')}".lower()
+        text = f"{device.eui} {network.names.get(device.eui, '')} {device.store}".lower()
         if all(word in text for word in words):
             for name in filters_of(device, now):
                 sorts[name].append(device)

@@ -82,8 +82,9 @@ class Device:
 
     eui: str
     slot: int = -1
-    # the application that has it, once an event came
+    # the application that has it, once an event came; and its store, if there are several
     application: str = ""
+    store: str = ""
     # of the server's list: JoinNonces, counters, items
     granted: int = 0
     session: int | None = None
@@ -186,6 +187,10 @@ class Gateway:
     eui: str
     # None if the console doesn't know: the server says only how many gateways have a link
     is_linked: bool | None = None
+    # whether its links to many stores come and go, so that only its bridge knows whether it is there
+    is_hubbed: bool = False
+    # when it was last heard for each store, if there are several
+    stores: dict[str, float] = field(default_factory=dict)
     last: float = 0.0
     # what its bridge has counted; None without the bridge's counts
     copies: int | None = None
@@ -205,12 +210,19 @@ class Gateway:
         snr_sum = sum(hour.snr_sum for hour in self.hours.values())
         return snr_sum / self.best if self.best else None
 
-    def add_best(self, uplink: Uplink) -> None:
+    def add_best(self, uplink: Uplink, store: str) -> None:
         """It heard a reading best, and so it has a link."""
         hour = self.hours.setdefault(int(uplink.came // 3600), GatewayHour())
         hour.best, hour.snr_sum, hour.last = hour.best + 1, hour.snr_sum + uplink.snr, uplink.came
-        self.last, self.is_linked, self.is_changed = uplink.came, True, True
+        self.last, self.is_changed = uplink.came, True
+        self.is_linked = self.is_linked if self.is_hubbed else True
         self.minute(uplink.came).best += 1
+        self.hear_for(store, uplink.came)
+
+    def hear_for(self, store: str, came: float) -> None:
+        """It was heard for a store."""
+        if store:
+            self.stores[store] = max(came, self.stores.get(store, 0.0))
 
     def minute(self, at: float) -> GatewayMinute:
         """The counts of a moment's minute."""

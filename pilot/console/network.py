@@ -2,8 +2,8 @@
 bridges fill it; after a restart the history brings back what these don't."""
 
 import time
-from collections import deque
-from collections.abc import Iterable
+from collections import Counter, deque
+from collections.abc import Iterable, Mapping
 from dataclasses import astuple, dataclass
 
 from adapting.rule import Setting
@@ -21,6 +21,7 @@ from .devices import (
     Uplink,
 )
 from .history import History
+from .servers import Server, servers_of, serving
 
 DAY = 86_400
 # how many minutes, events and senders of refused frames are in memory
@@ -64,21 +65,17 @@ class Event:
 class Network:
     """All that is known."""
 
-    def __init__(self, kept: History, net_id: int | None = None):
+    def __init__(self, kept: History, net_ids: Mapping[str, int | None] | None = None):
         self.kept = kept
+        # by the names of their stores, of which these are the NetIDs; one server has no name
+        self.servers = servers_of(net_ids or {"": None})
         self.devices: dict[str, Device] = {}
-        self.by_slot: dict[int, str] = {}
         self.gateways: dict[str, Gateway] = {}
         self.names: dict[str, str] = {}
         self.refused: dict[tuple[int, str], Refused] = {}
         self.events: deque[Event] = deque(maxlen=MOST_EVENTS)
         self.minutes: dict[int, Minute] = {}
         self.passed: dict[tuple[str, int], tuple[int, list[tuple[int, int]]]] = {}
-        # the upper seven bits of this network's DevAddrs, if its NetID is known
-        self.prefix = None if net_id is None else net_id & 0x3F
-        self.status: dict[str, str] = {}
-        self.status_came, self.began = 0.0, 0.0
-        self.is_serving: bool | None = None
         self.is_broker_there = False
         self.load()
 
@@ -114,7 +111,7 @@ class Network:
 
     def gateway(self, eui: str) -> Gateway:
         """The gateway of an EUI, which may be new."""
-        return self.gateways.setdefault(eui, Gateway(eui))
+        return self.gateways.setdefault(eui, Gateway(eui, is_hubbed=self.has_stores))
 
     def name(self, eui: str) -> str:
         """The name of a device or a gateway, or its EUI if it has none."""
@@ -186,20 +183,63 @@ class Network:
         """The devices whose uplinks are overdue."""
         return [device for device in self.devices.values() if device.is_silent(now)]
 
+    # the servers
+
+    @property
+    def has_stores(self) -> bool:
+        """Whether stores have names, since there are several."""
+        return "" not in self.servers
+
+    @property
+    def server(self) -> Server:
+        """The server, or the first one."""
+        return next(iter(self.servers.values()))
+
+    @property
+    def is_serving(self) -> bool | None:
+        """Whether all servers answer."""
+        return serving(self.servers.values())
+
+    @property
+    def away(self) -> list[str]:
+        """The names of the stores whose server doesn't answer."""
+        return [name for name, server in self.servers.items() if server.is_serving is False]
+
     @property
     def slots(self) -> int:
-        """How many devices the store has room for; 0 if no server has answered yet."""
-        return int(self.status.get("slots", 0))
+        """How many devices all stores have room for; 0 if no server has answered yet."""
+        return sum(server.slots for server in self.servers.values())
+
+    @property
+    def has_status(self) -> bool:
+        """Whether a server has answered."""
+        return any(server.status for server in self.servers.values())
+
+    @property
+    def dropped(self) -> int:
+        """What all servers couldn't send since their start."""
+        return sum(server.number("dropped") for server in self.servers.values())
+
+    @property
+    def longest_sync(self) -> float:
+        """The longest sync of all servers since their start, in ms."""
+        return max(server.number("longest_sync_us") for server in self.servers.values()) / 1000
+
+    def counts(self) -> Counter[str]:
+        """How many devices each store has."""
+        return Counter(device.store for device in self.devices.values())
 
     # the gateways' links
 
     def forget_links(self) -> None:
         """The server has ended, and all links with it."""
         for gateway in self.gateways.values():
-            gateway.is_linked = None
+            gateway.is_linked = gateway.is_linked if self.has_stores else None
 
     def settle_links(self, linked: int) -> None:
         """The server says how many gateways have a link: that may say of all which ones."""
+        if self.has_stores:
+            return
         known = list(self.gateways.values())
         unknown = [gateway for gateway in known if gateway.is_linked is None]
         certain = [gateway for gateway in known if gateway.is_linked]

@@ -7,6 +7,7 @@ import time
 from .devices import Uplink
 from .network import Network
 from .refusals import refusal
+from .servers import Server
 
 # of a line of `lnsd devices`: a later server may add words at its end
 LISTED = re.compile(
@@ -24,6 +25,7 @@ NUMBER = re.compile(r"\d{1,20}")
 EUI = re.compile(r"[0-9A-F]{16}")
 # of the lower 25 bits of a DevAddr the upper twelve are the device's slot
 NWK_ADDR, SESSIONS_OF_SLOT = 0x1FF_FFFF, 13
+UNKNOWN_DEV_EUI = 7
 LINKS = {
     "linked": "Linked",
     "ended": "Link ended",
@@ -32,66 +34,71 @@ LINKS = {
 }
 
 
-def take_status(network: Network, text: str) -> None:
+def take_status(network: Network, text: str, of: Server | None = None) -> None:
     """The output of `lnsd status`, or nothing if no server answers."""
+    server = of or network.server
     said = dict(line.split(" ", 1) for line in text.splitlines() if " " in line)
     if "made" not in said:
-        set_serving(network, False)
+        set_serving(network, server, False)
         return
     now = time.time()
-    if number(said, "made") < number(network.status, "made"):
-        start_again(network)
-    set_serving(network, True)
-    take_growth(network, said)
-    network.status, network.status_came = said, now
+    before, server.status = server.status, said
+    if server.number("made") < number(before, "made"):
+        start_again(network, server)
+        before, server.status = {}, said
+    set_serving(network, server, True)
+    take_growth(network, before, said)
+    server.status_came = now
     if "now" in said:
-        network.began = now - number(said, "now") / 1000
+        server.began = now - number(said, "now") / 1000
     for name, value in said.items():
         if name.startswith("last_copy_") and NUMBER.fullmatch(value):
-            take_copy(network, name.removeprefix("last_copy_"), int(value), now)
+            take_copy(network, server, name.removeprefix("last_copy_"), int(value))
     network.settle_links(number(said, "gateways"))
 
 
-def take_growth(network: Network, said: dict[str, str]) -> None:
+def take_growth(network: Network, before: dict[str, str], said: dict[str, str]) -> None:
     """Counts what has grown since the last status."""
     minute = network.minute()
-    if network.status:
-        minute.dropped += max(0, number(said, "dropped") - number(network.status, "dropped"))
+    if before:
+        minute.dropped += max(0, number(said, "dropped") - number(before, "dropped"))
     # the longest sync is of the whole life, so it is of this minute if it has grown
     longest = number(said, "longest_sync_us")
-    if longest > number(network.status, "longest_sync_us"):
+    if longest > number(before, "longest_sync_us"):
         minute.sync_us = max(minute.sync_us, longest)
 
 
-def take_copy(network: Network, eui: str, moment: int, now: float) -> None:
+def take_copy(network: Network, server: Server, eui: str, moment: int) -> None:
     """When a gateway's last copy came, in milliseconds since the server's start."""
     if not EUI.fullmatch(eui):
         return
-    take_moment(network, moment, now)
+    take_moment(server, moment, server.status_came)
     gateway = network.gateway(eui)
-    if gateway.is_linked is None:
+    if gateway.is_linked is None and not gateway.is_hubbed:
         gateway.is_linked = True
-    gateway.last = max(gateway.last, network.began + moment / 1000)
+    came = server.began + moment / 1000
+    gateway.last = max(gateway.last, came)
+    gateway.hear_for(server.name, came)
 
 
-def take_moment(network: Network, moment: int, now: float) -> None:
+def take_moment(server: Server, moment: int, now: float) -> None:
     """A moment that is past by now, so the server began no later than it says. An older server
     doesn't print how long it has run."""
-    if "now" not in network.status:
-        network.began = min(network.began or now, now - moment / 1000)
+    if "now" not in server.status:
+        server.began = min(server.began or now, now - moment / 1000)
 
 
-def set_serving(network: Network, is_serving: bool) -> None:
+def set_serving(network: Network, server: Server, is_serving: bool) -> None:
     """Whether a server answers."""
-    if is_serving != network.is_serving:
+    if is_serving != server.is_serving:
         text = "The server answers" if is_serving else "No server answers"
-        network.note("server", "", text)
-    network.is_serving = is_serving
+        network.note("server", "", server.label(text))
+    server.is_serving = is_serving
 
 
-def start_again(network: Network) -> None:
+def start_again(network: Network, server: Server) -> None:
     """Another life of the server has begun: its moments and links are new ones."""
-    network.began, network.status = 0.0, {}
+    server.began, server.status = 0.0, {}
     network.forget_links()
 
 
@@ -101,29 +108,29 @@ def number(said: dict[str, str], name: str) -> int:
     return int(value) if NUMBER.fullmatch(value) else 0
 
 
-def take_devices(network: Network, text: str) -> None:
+def take_devices(network: Network, text: str, of: Server | None = None) -> None:
     """The output of `lnsd devices`."""
-    now = time.time()
+    now, server = time.time(), of or network.server
     found = [match for match in map(LISTED.fullmatch, text.splitlines()) if match]
     for match in found:
-        if match["last"] and network.began:
-            take_moment(network, int(match["last"]), now)
+        if match["last"] and server.began:
+            take_moment(server, int(match["last"]), now)
     for match in found:
-        take_listed(network, match)
+        take_listed(network, server, match)
 
 
-def take_listed(network: Network, match: re.Match[str]) -> None:
+def take_listed(network: Network, server: Server, match: re.Match[str]) -> None:
     """A line of the list."""
     device = network.device(match["eui"])
     device.slot, device.granted = int(match["slot"]), int(match["granted"])
-    device.items, device.heard = int(match["items"]), int(match["heard"])
-    network.by_slot[device.slot] = device.eui
+    device.items, device.heard, device.store = int(match["items"]), int(match["heard"]), server.name
+    server.by_slot[device.slot] = device.eui
     device.session, device.last_up, device.next_down = (
         None if match[name] == "-" else int(match[name])
         for name in ("session", "last_up", "next_down")
     )
-    if match["last"] and network.began:
-        came = network.began + int(match["last"]) / 1000
+    if match["last"] and server.began:
+        came = server.began + int(match["last"]) / 1000
         # an event has more of the same uplink, and comes a little later
         if came > device.last + 1:
             rate = device.uplink.rate if device.uplink else None
@@ -131,39 +138,40 @@ def take_listed(network: Network, match: re.Match[str]) -> None:
             device.uplink = Uplink(came, match["gateway"], *how, rate)
 
 
-def take_line(network: Network, line: str) -> None:
+def take_line(network: Network, line: str, of: Server | None = None) -> None:
     """A line of `lnsd watch`, or of the lookout. A line of a later server is ignored."""
-    kind, _, rest = line.partition(" ")
+    server, (kind, _, rest) = of or network.server, line.partition(" ")
     if kind == "refused":
-        take_refused(network, line)
+        take_refused(network, server, line)
     elif kind == "joined":
-        take_joined(network, rest.split(" "))
+        take_joined(network, server, rest.split(" "))
     elif kind in LINKS:
-        take_link(network, kind, rest)
+        take_link(network, server, kind, rest)
     elif kind == "slow_sync" and NUMBER.fullmatch(rest):
-        take_slow_sync(network, int(rest))
+        take_slow_sync(network, server, int(rest))
     elif kind == "dropped":
         name, _, count = rest.rpartition(" ")
-        network.note("dropped", "", f"Not sent to {name}: {count}")
+        network.note("dropped", "", server.label(f"Not sent to {name}: {count}"))
     elif kind == "silent":
-        network.note("link", "", "Link closed: no greeting in ten seconds")
+        network.note("link", "", server.label("Link closed: no greeting in ten seconds"))
     elif kind == "left_out":
-        network.note("server", "", f"{rest} events weren't printed: too many at a time")
+        text = f"{rest} events weren't printed: too many at a time"
+        network.note("server", "", server.label(text))
     elif kind == "gone":
-        set_serving(network, False)
-        start_again(network)
+        set_serving(network, server, False)
+        start_again(network, server)
 
 
-def take_refused(network: Network, line: str) -> None:
+def take_refused(network: Network, server: Server, line: str) -> None:
     """A frame or a copy was refused."""
     found = REFUSED.fullmatch(line)
-    if not found:
+    if not found or is_of_another_store(network, server, found):
         return
     sender = found["sender"] or ""
-    if found["kind"] == "data" and int(sender, 16) >> 25 == network.prefix:
+    if found["kind"] == "data" and int(sender, 16) >> 25 == server.prefix:
         # the address of one of our sessions says which device it is, or says that it is
         slot = (int(sender, 16) & NWK_ADDR) >> SESSIONS_OF_SLOT
-        sender = network.by_slot.get(slot, sender)
+        sender = server.by_slot.get(slot, sender)
     refused = network.refuse(int(found["number"]), sender, found["kind"])
     refused.gateway, refused.snr = found["gateway"], int(found["snr"]) / 4
     if found["kind"] == "join":
@@ -176,30 +184,47 @@ def take_refused(network: Network, line: str) -> None:
         network.note("refused", sender, f"{what} refused{often}: {reason.name}. {reason.meaning}")
 
 
-def take_joined(network: Network, words: list[str]) -> None:
+def is_of_another_store(network: Network, server: Server, found: re.Match[str]) -> bool:
+    """Whether a frame was refused because it is for a device of another store: a Join-Request that
+    went to all stores, or an uplink if two stores have one NetID, and so the same addresses."""
+    if found["kind"] == "join" and int(found["number"]) == UNKNOWN_DEV_EUI:
+        device = network.devices.get(found["sender"])
+        return device is not None and device.store != server.name
+    return found["kind"] == "data" and server.is_shared
+
+
+def take_joined(network: Network, server: Server, words: list[str]) -> None:
     """A join was accepted."""
     eui, nonce, gateway = words[:3]
     if not (EUI.fullmatch(eui) and EUI.fullmatch(gateway) and NUMBER.fullmatch(nonce)):
         raise ValueError("no device, JoinNonce and gateway")
     network.minute().joins += 1
-    network.device(eui).granted = int(nonce)
+    device = network.device(eui)
+    device.granted, device.store = int(nonce), server.name
     network.accept_join(eui)
-    network.note("joined", eui, f"Joined, by gateway {gateway} (JoinNonce {nonce})")
+    network.note("joined", eui, server.label(f"Joined, by gateway {gateway} (JoinNonce {nonce})"))
 
 
-def take_link(network: Network, kind: str, name: str) -> None:
-    """A link of a gateway or of an application."""
+def take_link(network: Network, server: Server, kind: str, name: str) -> None:
+    """A link of a gateway or of an application. With many stores a gateway's link to one of them
+    comes and goes, which is no event."""
     what, _, eui = name.partition(" ")
     if what == "gateway" and EUI.fullmatch(eui):
-        network.gateway(eui).is_linked = kind in ("linked", "taken_over")
-        network.note("link", eui, LINKS[kind])
+        gateway = network.gateway(eui)
+        if not gateway.is_hubbed:
+            gateway.is_linked = kind in ("linked", "taken_over")
+        elif kind == "linked":
+            gateway.hear_for(server.name, time.time())
+        if not gateway.is_hubbed or kind == "faulted":
+            network.note("link", eui, server.label(LINKS[kind]))
     else:
-        network.note("link", "", f"{name.capitalize() or 'A client'}: {LINKS[kind].lower()}")
+        text = f"{name.capitalize() or 'A client'}: {LINKS[kind].lower()}"
+        network.note("link", "", server.label(text))
 
 
-def take_slow_sync(network: Network, milliseconds: int) -> None:
+def take_slow_sync(network: Network, server: Server, milliseconds: int) -> None:
     """A sync of the disk took long. Only the longest of a minute is an event."""
     minute = network.minute()
     if 1000 * milliseconds > minute.sync_us:
         minute.sync_us = 1000 * milliseconds
-        network.note("sync", "", f"A sync of the disk took {milliseconds} ms")
+        network.note("sync", "", server.label(f"A sync of the disk took {milliseconds} ms"))

@@ -3,6 +3,8 @@
 import asyncio
 import re
 import time
+from collections.abc import Mapping
+from dataclasses import dataclass, field
 from pathlib import Path
 
 from bozintar.broker import Access, Broker
@@ -11,45 +13,29 @@ from bozintar.logs import log
 
 from . import broker_events, server_lines
 from .network import Network
+from .servers import Server
 
 # how long the lookout may take for an answer, in seconds
 PATIENCE = 15.0
 STATUS_EVERY, DEVICES_EVERY = 2.0, 10.0
 # how long until the lookout is connected to again
 PAUSE = 1.0
-COPIES = re.compile(
-    r'pilot_gateway_copies_total\{bridge="[a-z]+",gateway="([0-9A-F]{16})"\} ([0-9.e+]{1,20})'
+OF_GATEWAY = re.compile(
+    r'pilot_gateway_(copies_total|linked)\{bridge="[a-z]+",gateway="([0-9A-F]{16})"\} '
+    r"([0-9.e+]{1,20})"
 )
 # in a folder of all, for example node_exporter's, or in one of each bridge
-COUNTS_FILES = ("gateways-*.prom", "*/gateways-*.prom")
-MOST_COUNTS = 100_000
+COUNTS_FILES = ("gateways-*.prom", "*/gateways-*.prom", "router.prom", "*/router.prom")
+MOST_COUNTS = 4_000_000
 
 
-class Sources:
-    """All of them, for one network."""
+class Source:
+    """A server's lookout."""
 
-    def __init__(self, network: Network, lookout: str, counts: str | None):
-        self.network, self.lookout, self.counts = network, lookout, counts
+    def __init__(self, network: Network, server: Server, lookout: str):
+        self.network, self.server, self.lookout = network, server, lookout
         # something has changed, so the server is asked before it is time
         self.is_due = asyncio.Event()
-        self.broker: Broker | None = None
-
-    def connect(self, access: Access, name: str) -> None:
-        """Connects to the broker, under this name of a client."""
-        self.broker = Broker(access, name, broker_events.TOPICS, self.take, is_kept=True)
-        self.broker.start()
-
-    def end(self) -> None:
-        """Disconnects."""
-        if self.broker:
-            self.broker.end()
-
-    def take(self, topic: str, payload: bytes) -> None:
-        """An event of the broker."""
-        try:
-            broker_events.take(self.network, topic, payload)
-        except Wrong as why:
-            log(f"no event, on {topic[:80]!a}: {why}")
 
     async def ask(self, word: str) -> str:
         """The server's answer to a word; nothing if none comes."""
@@ -67,7 +53,7 @@ class Sources:
 
     async def refresh(self) -> None:
         """Asks for the list of devices. The lookout's may be some seconds old."""
-        server_lines.take_devices(self.network, await self.ask("devices"))
+        server_lines.take_devices(self.network, await self.ask("devices"), self.server)
 
     async def ask_on(self) -> None:
         """Asks for the status and the devices again and again: nothing reports their changes."""
@@ -75,14 +61,10 @@ class Sources:
         while True:
             self.is_due.clear()
             status = await self.ask("status")
-            server_lines.take_status(self.network, status)
-            self.network.is_broker_there = bool(self.broker and self.broker.is_there())
+            server_lines.take_status(self.network, status, self.server)
             if status and time.monotonic() - asked >= DEVICES_EVERY:
                 asked = time.monotonic()
                 await self.refresh()
-            if self.counts:
-                take_copies(self.network, await asyncio.to_thread(copies_in, self.counts))
-            self.network.save_minutes()
             try:
                 await asyncio.wait_for(self.is_due.wait(), STATUS_EVERY)
             except asyncio.TimeoutError:
@@ -107,30 +89,101 @@ class Sources:
     def take_line(self, line: str) -> None:
         """A line of the lookout."""
         try:
-            server_lines.take_line(self.network, line)
+            server_lines.take_line(self.network, line, self.server)
         except (ValueError, IndexError) as why:
             log(f"an unknown line {line[:80]!a}: {why}")
         if line in ("watching", "gone"):
             self.is_due.set()
 
 
-def copies_in(folder: str) -> dict[str, int]:
-    """The copies of each gateway, as the bridges have counted them. A file that can't be read now
-    is read the next time."""
-    found: dict[str, int] = {}
+class Sources:
+    """All of them, for one network. The lookouts are by the names of their stores."""
+
+    def __init__(self, network: Network, lookouts: Mapping[str, str], counts: str | None):
+        self.network, self.counts = network, counts
+        servers = network.servers
+        self.lookouts = [Source(network, servers[name], path) for name, path in lookouts.items()]
+        self.broker: Broker | None = None
+
+    def connect(self, access: Access, name: str) -> None:
+        """Connects to the broker, under this name of a client."""
+        self.broker = Broker(access, name, broker_events.TOPICS, self.take, is_kept=True)
+        self.broker.start()
+
+    def end(self) -> None:
+        """Disconnects."""
+        if self.broker:
+            self.broker.end()
+
+    def take(self, topic: str, payload: bytes) -> None:
+        """An event of the broker."""
+        try:
+            broker_events.take(self.network, topic, payload)
+        except Wrong as why:
+            log(f"no event, on {topic[:80]!a}: {why}")
+
+    async def refresh(self) -> None:
+        """Asks all servers for their lists of devices."""
+        await asyncio.gather(*(lookout.refresh() for lookout in self.lookouts))
+
+    async def ask_on(self) -> None:
+        """Asks all servers, and looks at the rest, again and again."""
+        await asyncio.gather(self.look_on(), *(lookout.ask_on() for lookout in self.lookouts))
+
+    async def look_on(self) -> None:
+        """Looks whether the broker is there, and at the bridges' counts, again and again."""
+        while True:
+            self.network.is_broker_there = bool(self.broker and self.broker.is_there())
+            if self.counts:
+                found = await asyncio.to_thread(counts_in, self.counts)
+                take_copies(self.network, found.copies)
+                take_linked(self.network, found.linked)
+            self.network.save_minutes()
+            await asyncio.sleep(STATUS_EVERY)
+
+    async def watch(self) -> None:
+        """Takes what all servers print, without end."""
+        await asyncio.gather(*(lookout.watch() for lookout in self.lookouts))
+
+
+@dataclass
+class OfGateways:
+    """What bridges have counted of each gateway: its copies, and whether it is there."""
+
+    copies: dict[str, int] = field(default_factory=dict)
+    linked: dict[str, bool] = field(default_factory=dict)
+
+
+def counts_in(folder: str) -> OfGateways:
+    """The counts of all bridges. A file that can't be read now is read the next time."""
+    found = OfGateways()
     files = (file for pattern in COUNTS_FILES for file in Path(folder).glob(pattern))
     for file in files:
         try:
             with open(file, encoding="ascii") as text:
-                pairs = COPIES.findall(text.read(MOST_COUNTS))
+                samples = OF_GATEWAY.findall(text.read(MOST_COUNTS))
         except (OSError, UnicodeError):
             continue
-        for eui, value in pairs:
+        for name, eui, value in samples:
             try:
-                found[eui] = found.get(eui, 0) + int(float(value))
+                number = int(float(value))
             except (ValueError, OverflowError):
-                pass  # no number after all
+                continue  # no number after all
+            if name == "linked":
+                found.linked[eui] = found.linked.get(eui, False) or number > 0
+            else:
+                found.copies[eui] = found.copies.get(eui, 0) + number
     return found
+
+
+def take_linked(network: Network, linked: dict[str, bool]) -> None:
+    """With many stores, bridges say which gateways are there: their links to stores come and go."""
+    for eui, is_linked in linked.items():
+        if network.has_stores:
+            gateway = network.gateway(eui)
+            if gateway.is_linked is not None and gateway.is_linked != is_linked:
+                network.note("link", eui, "Online" if is_linked else "Offline")
+            gateway.is_linked = is_linked
 
 
 def take_copies(network: Network, counts: dict[str, int]) -> None:

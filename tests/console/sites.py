@@ -119,11 +119,12 @@ class Console:
         folder: Path,
         may_write: bool = True,
         tls: dict[str, ssl.SSLContext] | None = None,
+        net_ids: dict[str, int | None] | None = None,
         **how: Any,
     ) -> None:
         self.loop, self.tls = asyncio.new_event_loop(), tls or {}
         self.kept = History(str(folder / "console.db"))
-        self.network, self.bridge = Network(self.kept, 0x2A), Bridge()
+        self.network, self.bridge = Network(self.kept, net_ids or {"": 0x2A}), Bridge()
         self.socket = str(folder / "ask")
         access = Access({HOST, "localhost"}, bool(tls), may_write and not tls)
         self.site = Site(self.network, access, Bridges({"3": self.socket}), self.refresh)

@@ -126,7 +126,7 @@ def test_last_uplink(console: Console, clock: Clock) -> None:
     by `now`, or by the moments that have passed."""
     console.serves(listed(0, DEVICE, age=2))
     assert "Last uplink 2 s ago" in console.get(f"/devices/{DEVICE}").text
-    console.network.status.clear()
+    console.network.server.status.clear()
     console.network.devices[DEVICE].uplink = None
     from console import server_lines
 

@@ -11,7 +11,7 @@ from typing import Any
 import pytest
 from console import history
 from console.history import History
-from console.sources import Sources, copies_in, take_copies
+from console.sources import Sources, counts_in, take_copies
 
 from .sites import DEVICE, GATEWAY, STATUS, Clock, Console, listed, up
 
@@ -61,10 +61,10 @@ def test_lookout(folder: Path, console: Console) -> None:
     """The console asks for the status and the devices, and takes what is printed. It learns at once
     that the server has gone, and goes on when it is back."""
     network, path = console.network, str(folder / "look")
-    network.is_serving, network.status = None, {}
+    network.server.is_serving, network.server.status = None, {}
     network.devices.clear()
     played = Lookout(path)
-    made = Sources(network, path, None)
+    made = Sources(network, {"": path}, None)
 
     async def trial() -> None:
         tasks = [asyncio.ensure_future(work) for work in (made.ask_on(), made.watch())]
@@ -95,7 +95,7 @@ def test_lookout(folder: Path, console: Console) -> None:
 
 def test_no_events(console: Console, capfd: pytest.CaptureFixture[str]) -> None:
     """What is no event is logged, without its payload, and does no harm."""
-    made = Sources(console.network, "none", None)
+    made = Sources(console.network, {"": "none"}, None)
     made.take(*up(DEVICE, 0))
     made.take(f"application/3/device/{DEVICE.lower()}/event/up", b'{"data":"secret"}')
     made.take("x" * 1000, b"")
@@ -112,8 +112,8 @@ def test_counts(console: Console, folder: Path, clock: Clock) -> None:
     file.write_text(COUNTS, encoding="ascii")
     (folder / "gateways-mqtt.prom").write_bytes(b"\xff\xfe nothing")
     (folder / "other.prom").write_text(COUNTS, encoding="ascii")
-    assert copies_in(str(folder)) == {GATEWAY: 41}
-    assert copies_in(str(folder / "none")) == {}
+    assert counts_in(str(folder)).copies == {GATEWAY: 41}
+    assert counts_in(str(folder / "none")).copies == {}
     for value in (41, 51, 61, 5):
         take_copies(console.network, {GATEWAY: value})
     gateway = console.network.gateways[GATEWAY]

@@ -12,6 +12,7 @@ from .doors import Certificates, Doors
 from .networks import Network
 from .parts import Parts, Pilot
 from .stations import ByStations
+from .stores import Stores
 from .whole import Dashboard, Whole
 
 
@@ -55,6 +56,13 @@ def pilot(program: str) -> Iterator[Pilot]:
 def network() -> Iterator[Network]:
     """A network that is played."""
     with Network() as made:
+        yield made
+
+
+@pytest.fixture
+def stores(parts: Parts) -> Iterator[Stores]:
+    """Two stores that are played, each with a NetID of its own."""
+    with Stores(parts, d00=0, d01=1) as made:
         yield made
 
 

@@ -19,6 +19,8 @@ FILE = 'node_textfile_mtime_seconds{file="/x/%s.prom"}'
 LAST_COPY = 'lnsd_last_copy_seconds{gateway="00000000000000B%d"}'
 OF_GATEWAY = 'pilot_gateway_%s{bridge="udp",gateway="00000000000000B1"}'
 APPLICATION = '{application="3"}'
+OF_STORE = 'pilot_store_%s{bridge="udp",store="d00"}'
+STORE_LINKED = 'pilot_applications_mqtt_store_linked{application="3",store="d00"}'
 
 
 def steady(number: float) -> str:
@@ -40,6 +42,7 @@ COUNTERS = {
         *("not_sent", "too_many", "unknown_gateways", "closed_soon", "unlinked", "caught_up"),
         *("out_of_time", "wrong_events"),
     ),
+    "pilot_router": ("closed_soon", "unlinked", "caught_up"),
     "pilot_applications_mqtt": ("events_lost", "closed_soon", "wrong_commands"),
     "pilot_readings": ("closed_soon",),
     "pilot_adr": ("closed_soon",),
@@ -75,6 +78,9 @@ WELL = {
     # a gateway that comes by the other bridge is in both lists
     'pilot_gateway_linked{bridge="mqtt",gateway="00000000000000B1"}': steady(0),
     OF_GATEWAY % "last_pull_seconds": growing(60),
+    OF_STORE % "served": steady(1),
+    OF_STORE % "crowded_total": steady(7),
+    STORE_LINKED: steady(1),
     'pilot_certificate_end_seconds{file="server.crt"}': steady(9e9),
 }
 NONE = None
@@ -102,6 +108,7 @@ WRONG: tuple = (
     ("EventsLost", {"pilot_applications_mqtt_events_lost_total": growing(2000)}),
     ("NameInUse", {"pilot_gateways_udp_closed_soon_total": growing(2)}),
     ("NameInUse", {"pilot_gateways_mqtt_closed_soon_total": growing(2)}),
+    ("NameInUse", {"pilot_router_closed_soon_total": growing(2)}),
     ("NameInUse", {"pilot_applications_mqtt_closed_soon_total": growing(60)}),
     ("NameInUse", {"pilot_readings_closed_soon_total": growing(60)}),
     ("NameInUse", {"pilot_adr_closed_soon_total": growing(60)}),
@@ -114,6 +121,12 @@ WRONG: tuple = (
     ("GatewayAsksFromTwoPlaces", {"pilot_gateways_udp_ports_moved_total": growing(20)}),
     ("FramesUnlinked", {"pilot_gateways_udp_unlinked_total": growing(2)}),
     ("FramesUnlinked", {"pilot_gateways_mqtt_unlinked_total": growing(2)}),
+    ("FramesUnlinked", {"pilot_router_unlinked_total": growing(2)}),
+    ("StoreIsCrowded", {OF_STORE % "crowded_total": growing(1)}),
+    ("StoreIsUnserved", {OF_STORE % "served": steady(0)}),
+    ("StoreHasNoApplication", {STORE_LINKED: steady(0)}),
+    # of several stores, one is wrong
+    ("LnsdDown", {'lnsd_up{store="d01"}': steady(0)}),
     ("DownlinksOutOfTime", {"pilot_gateways_udp_out_of_time_total": growing(1)}),
     ("DownlinksOutOfTime", {"pilot_gateways_mqtt_out_of_time_total": growing(1)}),
     ("WrongMessages", {"pilot_gateways_udp_wrong_datagrams_total": growing(2)}),

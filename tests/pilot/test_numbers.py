@@ -8,7 +8,7 @@ from typing import Any
 
 from bozintar.forwarders import Forwarder
 from bozintar.mqtt import client
-from bozintar.processes import HOST, await_that
+from bozintar.processes import HOST, await_that, free_port
 
 from .doors import Doors
 from .field import GATEWAYS
@@ -146,6 +146,18 @@ def of_bridge(pilot: Pilot, name: str) -> set[str]:
     return set(samples(Path(file).read_text(encoding="utf-8")))
 
 
+def of_stores(pilot: Pilot, name: str) -> set[str]:
+    """The names of the numbers that a bridge to many stores writes."""
+    file, stores = pilot.file(f"{name}.prom"), pilot.file("stores", "d00 000000 -\n")
+    words: tuple = ("--listen", f"{HOST}:{free_port()}")
+    if name == "applications-mqtt":
+        words = ("--broker", f"{HOST}:{pilot.broker_port}", "--application", "3")
+    part = pilot.own(name, *words, "--stores", stores, "--counts", file, name=f"{name}-stores")
+    part.start("connected to" if name == "applications-mqtt" else "listens on")
+    part.end()
+    return set(samples(Path(file).read_text(encoding="utf-8")))
+
+
 def of_door(doors: Doors) -> set[str]:
     """The names of the numbers that the door writes."""
     file = doors.pilot.file("door.prom")
@@ -160,6 +172,7 @@ def test_alerts(doors: Doors, folder: Path) -> None:
     pilot.broker().start("running")
     found = of_metrics(folder, f"{HOST}:{pilot.broker_port}") | of_door(doors)
     found = found.union(*(of_bridge(pilot, name) for name in BRIDGES))
+    found |= of_stores(pilot, "router") | of_stores(pilot, "applications-mqtt")
     assert set(ALERTS) <= found, "names that alerts use, and that are numbers"
 
 
