@@ -7,11 +7,10 @@ import sys
 import threading
 import time
 from collections.abc import Callable
-from dataclasses import dataclass
 from functools import partial
 from typing import Any
 
-from . import mqtt
+from . import members, mqtt
 from .logs import Seldom, log, warn
 from .running import Handover
 from .words import Address, stop
@@ -36,56 +35,27 @@ BROKERS_HELP = (
 REFUSED = 0x80
 
 
-def addresses(text: str) -> tuple[Address, ...]:
-    """HOST:PORT, or several of these with commas between them: the nodes of a broker."""
-    found = tuple(Address.read(one) for one in text.split(","))
-    for one in found:
-        if found.count(one) > 1:
-            raise argparse.ArgumentTypeError(f"{one} is named twice")
-    return found
-
-
-@dataclass(frozen=True)
-class Access:
+class Access(members.Access):
     """Where the broker's nodes are, and the certificates for it."""
-
-    addresses: tuple[Address, ...]
-    ca: str | None = None
-    certificate: str | None = None
-    key: str | None = None
 
     @staticmethod
     def add_words(words: argparse.ArgumentParser, is_required: bool = True) -> None:
         """The options about a broker."""
         words.add_argument(
             "--broker",
-            type=addresses,
+            type=members.addresses,
             required=is_required,
             metavar="HOST:PORT",
             help=BROKERS_HELP,
         )
-        files = {
-            "ca": "the authority of the broker's certificate; without it there is no TLS",
-            "certificate": "this client's certificate, with --ca and --key",
-            "key": "the key of that certificate",
-        }
-        for name, what in files.items():
-            words.add_argument(f"--{name}", metavar="FILE", help=what)
+        members.Access.add_files(words, "the broker")
 
     @classmethod
     def of(cls, given: Any) -> "Access":
         """What the options say. Without the MQTT library the program ends here."""
         mqtt.need_it()
-        if bool(given.certificate) != bool(given.key):
-            stop("--certificate and --key go together", 2)
-        if given.certificate and not given.ca:
-            stop("--certificate needs --ca: TLS is used with it alone", 2)
+        cls.check_files(given)
         return cls(given.broker, given.ca, given.certificate, given.key)
-
-    @property
-    def address(self) -> Address:
-        """The first node, for what asks once."""
-        return self.addresses[0]
 
 
 class Broker:

@@ -12,8 +12,9 @@ from contextlib import asynccontextmanager
 from typing import Any
 
 import pytest
-from bozintar import broker, mqtt
-from bozintar.broker import Access, Broker, addresses
+from bozintar import mqtt
+from bozintar.broker import Access, Broker
+from bozintar.members import addresses
 from bozintar.processes import HOST, Process, await_that, command, free_port
 from bozintar.words import Address
 
@@ -154,7 +155,7 @@ def test_a_node_that_hangs(parts: Parts) -> None:
     one, two = Node(parts, "one"), Node(parts, "two")
     begun = time.monotonic()
     asyncio.run(while_one_hangs(one, two))
-    assert time.monotonic() - begun > broker.mqtt.KEEPALIVE_OF_NODES
+    assert time.monotonic() - begun > mqtt.KEEPALIVE_OF_NODES
     one.leave()
     two.leave()
 
