@@ -245,11 +245,11 @@ class Etcd:
         except NoLease:
             pass
 
-    def changes(self, prefixes: Sequence[str], since: int, pause: float) -> Iterator[list[Change]]:
-        """What changes below these prefixes after a revision, as it comes. An empty list comes
+    def changes(self, seen: dict[str, int], pause: float) -> Iterator[list[Change]]:
+        """What changes below prefixes, each after a revision, as it comes. An empty list comes
         after each `pause` in which nothing has changed. A member that doesn't answer then, or has
         lost the majority, is left for the next one."""
-        faults, seen = 0, dict.fromkeys(prefixes, since)
+        faults, why = 0, ""
         while faults < len(self.members):
             watch = Watch(self, seen)
             try:

@@ -11,6 +11,8 @@ import re
 from dataclasses import asdict, dataclass, fields
 from typing import Any, TypeVar
 
+from bozintar.logs import complain
+
 STORE, FENCE, SERVING, DEVICE = (
     f"/bozintar/{kind}/" for kind in ("store", "fence", "serving", "device")
 )
@@ -92,11 +94,11 @@ def name_of(key: str) -> str:
 
 
 def readable(found: dict[str, Any], kind: type[R]) -> dict[str, R]:
-    """The records of all keys, by their names; one that can't be read is left out."""
+    """The records of all keys, by their names; one that can't be read is reported and left out."""
     records = {}
     for key, value in found.items():
         try:
             records[name_of(key)] = kind.read(key, value.text)
-        except Unreadable:
-            pass
+        except Unreadable as why:
+            complain(str(why))
     return records

@@ -111,6 +111,13 @@ class Kept:
         """Copies a file, as `cp` does."""
         return shutil.copy(of, self.file(name))
 
+    def stores(self, *words: Any) -> tuple[int, str]:
+        """Runs `stores` to its end; its status, and what it prints."""
+        said = [sys.executable, str(PILOT / "stores"), *map(str, words)]
+        said += ["--etcd", self.cluster.option]
+        ended = subprocess.run(said, capture_output=True, text=True, check=False)
+        return ended.returncode, ended.stdout + ended.stderr
+
     def add(self, net_id: str = NET_ID) -> None:
         """The cluster knows the store from now on."""
         assert self.etcd.change({STORE + self.name: 0}, Puts({STORE + self.name: net_id})).is_made

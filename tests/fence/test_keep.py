@@ -73,6 +73,28 @@ def test_first_file(kept: Kept) -> None:
     kept.stop(keeper)
 
 
+def test_adopted(kept: Kept) -> None:
+    """A file that `stores adopt` names is the store's first one, once. One that `stores replace`
+    names takes the place of the file of that life; while the store is served, neither is done."""
+    file, other = kept.format(), kept.format("other")
+    may = f"{kept.name} may be served from {file}, or a copy of it, at 0\n"
+    assert kept.stores("adopt", kept.name, file) == (0, may)
+    no = f"{kept.name} is refused: "
+    due = (1, f"{no}the fence has a file of this store already\n")
+    assert kept.stores("adopt", kept.name, other) == due
+    keeper = kept.serves(file)
+    assert kept.fence().life == 1
+    kept.decide()
+    for words in (("adopt", kept.name, other), ("replace", kept.name, other, 1)):
+        assert kept.stores(*words) == (1, f"{no}it is served by one\n")
+    kept.stop(keeper)
+    due = (1, f"{no}--replace names life 2, and the store is in life 1\n")
+    assert kept.stores("replace", kept.name, other, 2) == due
+    assert kept.stores("replace", kept.name, other, 1)[0] == 0
+    assert kept.refused(file) == "another copy, at 1: the store ended well at 0"
+    kept.stop(kept.serves(other, machine="two"))
+
+
 def test_second_copy(served: tuple[Kept, str, Process]) -> None:
     """While a store is served, neither a copy of it is served, nor its file once more."""
     kept, file, keeper = served
