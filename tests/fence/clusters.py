@@ -88,6 +88,11 @@ def answers(etcd: Etcd) -> bool:
     return False
 
 
+def await_said(process: Process, text: str) -> None:
+    """Waits until a program has printed that."""
+    await_that(text, lambda: process.has_said(text), LONG)
+
+
 class Kept:
     """A store in a cluster, its files, and its keepers."""
 

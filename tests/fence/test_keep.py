@@ -10,7 +10,7 @@ import pytest
 from bozintar.links import Application
 from bozintar.processes import HOST, Process, Processes, await_that, free_port
 
-from .clusters import LEASE, LONG, Cluster, Kept, answers, status_of
+from .clusters import LEASE, LONG, Cluster, Kept, answers, await_said, status_of
 
 # a clean end, and a fault that may pass
 WELL, AGAIN = 0, 1
@@ -25,11 +25,6 @@ def server_of(keeper: Process) -> int:
     """The process of a keeper's server."""
     children = Path(f"/proc/{keeper.pid}/task/{keeper.pid}/children").read_text(encoding="ascii")
     return int(children.split()[0])
-
-
-def await_said(keeper: Process, text: str) -> None:
-    """Waits until a keeper has printed that."""
-    await_that(text, lambda: keeper.has_said(text), LONG)
 
 
 def await_lease(kept: Kept) -> None:

@@ -10,15 +10,14 @@ from pathlib import Path
 
 import pytest
 from bozintar.members import Access
-from bozintar.processes import HOST, Process, Processes, await_that, command, free_port
+from bozintar.processes import HOST, Processes, await_that, command, free_port
 from bozintar.words import Address
 from fence.etcd import Etcd, Puts
 from fence.records import STORE
 
 from .clusters import LONG, NET_ID, PILOT, Cluster, Kept, answers
+from .units import INSTALLED, PACKAGING, Unit, read, settings_of, started, values_of
 
-PACKAGING = PILOT.parent / "packaging"
-INSTALLED = "/usr/lib/bozintar/pilot/"
 # the drop-ins that lead bridges to many stores, and the units that they are for
 DROP_INS = {
     "stores-applications-mqtt.conf": "bozintar-applications-mqtt@.service",
@@ -28,40 +27,6 @@ DROP_INS = {
 ADDRESSES = ("10.0.0.1", "10.0.0.2", "10.0.0.3")
 # options, and the files of a certificate and its key
 PAIR = (("certificate", "crt"), ("key", "key"))
-
-
-def values_of(text: str, key: str) -> list[str]:
-    """The values of a setting, with lines that go on joined."""
-    found = re.findall(rf"^{key}=((?:.*\\\n)*.*)", text, re.MULTILINE)
-    return [value.replace("\\\n", "") for value in found]
-
-
-class Unit:
-    """A unit of the package, with the places of a trial."""
-
-    def __init__(self, name: str, places: dict[str, str], settings: dict[str, str]):
-        self.text = (PACKAGING / "systemd" / name).read_text(encoding="utf-8")
-        self.places, self.settings = places, settings
-
-    def words(self, key: str) -> list[str]:
-        """The words of its command. A setting $NAME is several words, and ${NAME} is one."""
-        (line,) = values_of(self.text, key)
-        line = line.removeprefix("+")
-        for place, now in self.places.items():
-            line = line.replace(place, now)
-        words = []
-        for word in shlex.split(line):
-            if re.fullmatch(r"\$[A-Z_]+", word):
-                words += shlex.split(self.settings.get(word[1:], ""))
-            else:
-                words.append(re.sub(r"\$\{([A-Z_]+)\}", lambda name: self.settings[name[1]], word))
-        return words
-
-    def program(self) -> list[str]:
-        """The words of its program, as a program of the clone."""
-        program, *words = self.words("ExecStart")
-        assert program.startswith(INSTALLED)
-        return [sys.executable, str(PILOT / program.removeprefix(INSTALLED)), *words]
 
 
 def certificates(processes: Processes, *kinds: str) -> Path:
@@ -171,27 +136,6 @@ def test_units(processes: Processes, etcd: Etcd, authority: Path, program: str) 
     await_that("the store is shown", lambda: read(lines) == due, LONG)
     assert (keeper.end(seconds=LONG), follow.end(seconds=LONG)) == (0, 0)
     assert "d07 ended well, at 0" in keeper.said()
-
-
-def settings_of(name: str) -> dict[str, str]:
-    """The settings of a file of the package, with those that are comments there."""
-    text = (PACKAGING / "files" / name).read_text(encoding="utf-8")
-    return dict(re.findall(r"^#?([A-Z_]+)=(.*)$", text, re.MULTILINE))
-
-
-def started(processes: Processes, unit: Unit) -> Process:
-    """What a unit runs, after what it runs first."""
-    subprocess.run(unit.words("ExecStartPre"), check=True)
-    (folder,) = values_of(unit.text, "WorkingDirectory")
-    for place, now in unit.places.items():
-        folder = folder.replace(place, now)
-    program = unit.program()
-    return processes.process(Path(program[1]).name, *program).start(cwd=folder.removeprefix("-"))
-
-
-def read(file: str) -> str:
-    """A file's text, or nothing."""
-    return Path(file).read_text(encoding="ascii") if os.path.exists(file) else ""
 
 
 def test_what_a_store_needs() -> None:
