@@ -284,6 +284,7 @@ def test_address_in_use(kept: Kept) -> None:
     kept.stop(kept.serves(file))
 
 
+@pytest.mark.slow
 def test_members_are_killed(
     processes: Processes, cluster: Cluster, name: str, program: str
 ) -> None:

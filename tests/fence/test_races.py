@@ -3,6 +3,7 @@ served: one of them wins. Files without the bytes of the last winner never win."
 
 import signal
 
+import pytest
 from bozintar.processes import Process, await_that
 
 from .clusters import LONG, Kept
@@ -20,6 +21,7 @@ def winner(keepers: list[Process]) -> int:
     return left[0]
 
 
+@pytest.mark.slow
 def test_races(kept: Kept) -> None:
     """In every other turn all files have the last winner's bytes."""
     files = [kept.format("copy0"), *(kept.file(f"copy{at}") for at in range(1, MACHINES))]
