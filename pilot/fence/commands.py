@@ -115,7 +115,7 @@ def claim(etcd: Etcd, given: argparse.Namespace) -> int:
         return 1
     found = devices.read(given.file)
     for complaint in found.complaints():
-        complain(f"{given.file}: {complaint}")
+        complain(complaint if given.file in complaint else f"{given.file}: {complaint}")
     euis = list(dict.fromkeys(row.dev_eui for row in found.rows))
     new, before, refused = 0, 0, 0
     for first in range(0, len(euis), MOST_CHANGES):

@@ -105,10 +105,10 @@ class Kept:
         """A place for a file of this store."""
         return self.processes.file(f"{self.name}-{name}")
 
-    def format(self, name: str = "store", net_id: str = NET_ID) -> str:
+    def format(self, name: str = "store", net_id: str = NET_ID, slots: int = SLOTS) -> str:
         """Makes a store without devices."""
         made = self.file(name)
-        words = ("format", made, "--netid", net_id, "--slots", SLOTS)
+        words = ("format", made, "--netid", net_id, "--slots", slots)
         self.processes.process(f"format-{self.name}-{name}", self.program, *words).start().ended()
         return made
 

@@ -7,8 +7,10 @@ import subprocess
 from pathlib import Path
 
 import pytest
+from bozintar import wire
 from bozintar.links import Application
 from bozintar.processes import HOST, Process, Processes, await_that, free_port
+from bozintar.words import Address
 
 from .clusters import LEASE, LONG, Cluster, Kept, answers, await_said, status_of
 
@@ -212,6 +214,44 @@ def test_server_is_killed(served: tuple[Kept, str, Process]) -> None:
         await_said(keeper, f"life {life}, from {number}")
     assert kept.fence().life == 3
     assert kept.stop(keeper) == number
+
+
+def test_kills_under_load(kept: Kept) -> None:
+    """The number in the fence is durable for sure: a server that is killed while it decides as fast
+    as it can has at least that number when it is started again."""
+    keeper = kept.serves(kept.format(slots=4000), "--adopt", "--every", "0.1")
+    for life in range(1, 5):
+        kill_under_load(kept, keeper, life)
+    kept.stop(keeper)
+
+
+def kill_under_load(kept: Kept, keeper: Process, life: int) -> None:
+    """Kills the server of a life while devices are added, each of which is a decision."""
+    await_that("it is shown", lambda: shown_life(kept) == life, LONG)
+    serving, begun = kept.serving(), kept.fence().number
+    assert serving
+    address = Address.read(serving.address)
+    lines = [provision(900 * life + at) for at in range(900)]
+    with Application((address.host, address.port), 3) as link:
+        link.say(b"".join(map(wire.request, lines)))
+        await_that("the number grows", lambda: kept.fence().number > begun + 64)
+        subprocess.run(["kill", "-9", str(server_of(keeper))], check=True)
+        seen = kept.fence().number
+    next_life = f"life {life + 1}, from "
+    await_said(keeper, next_life)
+    number = int(keeper.said().rpartition(next_life)[2].split()[0])
+    assert number >= seen, "what the fence had seen is there"
+
+
+def shown_life(kept: Kept) -> int:
+    """The life in which the store is shown with an address, or 0."""
+    serving = kept.serving()
+    return serving.life if serving and serving.address else 0
+
+
+def provision(number: int) -> str:
+    """A request that adds a device."""
+    return f"provision {number:016X} 0102030405060708 {'2B' * 16} 0 1"
 
 
 def test_ended_by_hand(served: tuple[Kept, str, Process]) -> None:
