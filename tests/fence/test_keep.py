@@ -4,6 +4,7 @@ server, a keeper or members of the cluster are killed or hang."""
 import signal
 import socket
 import subprocess
+import time
 from pathlib import Path
 
 import pytest
@@ -378,6 +379,23 @@ def test_strict(
     assert keeper.ended(LONG) == AGAIN
     assert "the lease can't be renewed: the server is killed" in keeper.said()
     assert is_gone(kept, file)
+
+
+@pytest.mark.timed
+def test_strict_in_time(processes: Processes, cluster: Cluster, name: str, program: str) -> None:
+    """With --strict a server is killed before its lease can be over, while all members hang and
+    questions to them wait."""
+    kept, seconds = Kept(processes, cluster, name, program), 12
+    kept.add()
+    file = kept.format()
+    keeper = kept.serves(file, "--adopt", "--strict", "--lease", seconds)
+    begun = time.monotonic()
+    for member in cluster.members:
+        member.send_signal(signal.SIGSTOP)
+    await_that("the server is gone", lambda: is_gone(kept, file), LONG)
+    assert time.monotonic() - begun < seconds
+    assert keeper.ended(LONG) == AGAIN
+    assert "the lease can't be renewed: the server is killed" in keeper.said()
 
 
 def test_member_hangs(processes: Processes, cluster: Cluster, name: str, program: str) -> None:
