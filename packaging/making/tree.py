@@ -24,6 +24,11 @@ LIBRARIES = {
     "paho": "python3-paho-mqtt",
     "prometheus_client": "python3-prometheus-client",
 }
+# What operators set in /etc/bozintar.
+CONFFILES = (
+    *("lnsd.conf", "bridges.conf", "stores.conf", "console.conf", "door.conf"),
+    *("gateways", "adr-except"),
+)
 # What Python programs read beside their modules.
 PAGES = ("pilot/console/pages", "pilot/console/static")
 # The suffixes of settings and rules that are installed as examples.
@@ -165,6 +170,5 @@ def put_documents(tree: Tree) -> None:
     for name in tree.tracked("pilot"):
         if name.endswith(EXAMPLES):
             tree.copy(name, f"{DOC}/examples/{Path(name).name}")
-    settings = ("lnsd.conf", "bridges.conf", "console.conf", "door.conf", "gateways", "adr-except")
-    for name in settings:
+    for name in CONFFILES:
         tree.copy(f"{SETTINGS}/{name}", f"etc/bozintar/{name}")

@@ -15,9 +15,11 @@ from bozintar.server import Program
 
 from .counting import Trials, needed, run
 
+# The settings in files NAME.conf.
+NAMES = ("bridges", "console", "door", "lnsd", "stores")
 # The package may have at most this many bytes.
 MOST_BYTES = 6 << 20
-SETTINGS = ("adr-except", "bridges.conf", "console.conf", "door.conf", "gateways", "lnsd.conf")
+SETTINGS = ("adr-except", "gateways", *(f"{name}.conf" for name in NAMES))
 CONFFILES = {f"/etc/bozintar/{name}" for name in SETTINGS}
 # The users that the package makes.
 USERS = ("lnsd", "bozintar", "bozintar-console", "bozintar-door")

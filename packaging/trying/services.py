@@ -15,6 +15,8 @@ SERVING = {
     "bozintar-lookout": "",
     "bozintar-gateways-mqtt": "connected to",
     "bozintar-web-console": "",
+    # without etcd, which isn't there
+    "bozintar-follow": "the cluster is away",
 }
 DUE = ("lnsd_up 1", "pilot_broker_messages ", "pilot_copy_seconds ")
 

@@ -1,23 +1,20 @@
-"""A connection to an MQTT broker that comes back by itself, for asyncio."""
+"""A connection to an MQTT broker that comes back by itself, for asyncio. If the broker has several
+nodes, it comes back to the next one."""
 
 import argparse
 import asyncio
-import socket
 import sys
 import threading
 import time
 from collections.abc import Callable
-from dataclasses import dataclass
 from functools import partial
 from typing import Any
 
-from . import mqtt
+from . import members, mqtt
 from .logs import Seldom, log, warn
 from .running import Handover
 from .words import Address, stop
 
-KEEPALIVE = 30
-LONGEST_PAUSE = 30
 # how long until a broker that didn't take the certificate is tried again, in seconds
 REFUSED_PAUSE = 5
 # messages of the broker that wait to be read, and their bytes; more are dropped
@@ -30,51 +27,35 @@ GOODBYE = 1.0
 # a connection that the broker closes in this time, in seconds, may be another client's by now
 SOON = 10.0
 BROKER_HELP = "whether the broker is connected to"
+BROKERS_HELP = (
+    "where the MQTT broker listens, for example 127.0.0.1:1883. If it is a cluster, name all its "
+    "nodes, with commas between them: when a node is lost, the next one is taken"
+)
 # a broker's answer for a topic that may not be read, and above
 REFUSED = 0x80
 
 
-@dataclass(frozen=True)
-class Access:
-    """Where the broker is, and the certificates for it."""
-
-    address: Address
-    ca: str | None = None
-    certificate: str | None = None
-    key: str | None = None
+class Access(members.Access):
+    """Where the broker's nodes are, and the certificates for it."""
 
     @staticmethod
     def add_words(words: argparse.ArgumentParser, is_required: bool = True) -> None:
         """The options about a broker."""
         words.add_argument(
             "--broker",
-            type=Address.read,
+            type=members.addresses,
             required=is_required,
             metavar="HOST:PORT",
-            help="where the MQTT broker listens, for example 127.0.0.1:1883",
+            help=BROKERS_HELP,
         )
-        files = {
-            "ca": "the authority of the broker's certificate; without it there is no TLS",
-            "certificate": "this client's certificate, with --ca and --key",
-            "key": "the key of that certificate",
-        }
-        for name, what in files.items():
-            words.add_argument(f"--{name}", metavar="FILE", help=what)
+        members.Access.add_files(words, "the broker")
 
     @classmethod
     def of(cls, given: Any) -> "Access":
         """What the options say. Without the MQTT library the program ends here."""
         mqtt.need_it()
-        if bool(given.certificate) != bool(given.key):
-            stop("--certificate and --key go together", 2)
-        if given.certificate and not given.ca:
-            stop("--certificate needs --ca: TLS is used with it alone", 2)
+        cls.check_files(given)
         return cls(given.broker, given.ca, given.certificate, given.key)
-
-
-def at_once(_client: Any, _data: Any, connection: socket.socket) -> None:
-    """Lets a connection send what is small at once, and not 40 ms later."""
-    connection.setsockopt(socket.IPPROTO_TCP, socket.TCP_NODELAY, 1)
 
 
 class Broker:
@@ -100,7 +81,7 @@ class Broker:
         # the bytes of what came and isn't read: `came_bytes` grows in the library's thread, and
         # `read_bytes` in the event loop's
         self.came_bytes, self.read_bytes = 0, 0
-        self.is_gone, self.fault = threading.Event(), ""
+        self.is_gone, self.faults = threading.Event(), set[tuple[Address, str]]()
         # a connection that comes and goes is logged at most once a minute; its return, if its end
         # was
         self.seldom, self.is_logged, self.connected = Seldom(), True, 0.0
@@ -108,10 +89,9 @@ class Broker:
         self.is_gone.set()
         self.client = mqtt.client(name, is_kept)
         self.client.max_inflight_messages_set(1000)
-        self.client.reconnect_delay_set(1, LONGEST_PAUSE)
+        self.nodes = mqtt.Nodes(self.client, access.addresses)
         if access.ca:
             self.secure()
-        self.client.on_socket_open = at_once
         self.client.on_connect = self.on_connect
         self.client.on_connect_fail = self.on_connect_fail
         self.client.on_disconnect = self.on_disconnect
@@ -130,13 +110,9 @@ class Broker:
 
     def start(self) -> None:
         """Connects, now or as soon as the broker is there."""
-        self.connect()
+        self.nodes.connect()
         self.client.loop_forever = partial(self.go_on, self.client.loop_forever)
         self.client.loop_start()
-
-    def connect(self) -> None:
-        """Lets the library connect again."""
-        self.client.connect_async(self.access.address.host, self.access.address.port, KEEPALIVE)
 
     def end(self) -> None:
         """Disconnects, if the broker is there. It doesn't wait for the library's thread, which
@@ -203,7 +179,8 @@ class Broker:
                 self.is_gone.set()
                 self.miss(str(why))
             time.sleep(REFUSED_PAUSE)
-            self.connect()
+            self.nodes.turn()
+            self.nodes.connect()
 
     def on_connect(self, client: Any, _data: Any, _flags: Any, code: int) -> None:
         """Asks for the topics, again after each connection."""
@@ -211,9 +188,9 @@ class Broker:
             warn(f"the broker refuses the connection: {mqtt.paho.connack_string(code)}")
             return
         self.is_gone.clear()
-        self.fault, self.connected = "", time.monotonic()
+        self.faults, self.connected = set(), time.monotonic()
         if self.is_logged:
-            log(f"connected to the broker at {self.access.address}")
+            log(f"connected to the broker at {self.nodes.address}")
         self.is_logged = False
         if self.topics:
             client.subscribe([(topic, 1) for topic in self.topics])
@@ -221,13 +198,14 @@ class Broker:
     def on_connect_fail(self, *_: Any) -> None:
         """The library tries again, without end."""
         self.miss(str(sys.exc_info()[1]))
+        self.nodes.turn()
 
     def miss(self, why: str) -> None:
         """Logs why there is no connection, each reason once."""
-        if why != self.fault:
-            warn(f"no broker at {self.access.address}: {why}")
+        if (self.nodes.address, why) not in self.faults:
+            warn(f"no broker at {self.nodes.address}: {why}")
             self.is_logged = True
-        self.fault = why
+        self.faults.add((self.nodes.address, why))
 
     def on_subscribe(self, _client: Any, _data: Any, _number: int, granted: Any) -> None:
         """A topic that may not be read is logged, since nothing will come of it. (mosquitto grants
@@ -241,11 +219,13 @@ class Broker:
         self.is_gone.set()
         if not code:
             return
-        text = f"no broker at {self.access.address}: {mqtt.paho.error_string(code)}"
+        text = f"no broker at {self.nodes.address}: {mqtt.paho.error_string(code)}"
         if was_there and time.monotonic() < self.connected + SOON:
             self.closed_soon += 1
             text += " Another client may use this client's name"
         self.is_logged |= self.seldom.warn(text, text)
+        if not self.has_ended:
+            self.nodes.lost()
 
     def on_message(self, _client: Any, _data: Any, message: Any) -> None:
         """A message, which is read in the event loop. A retained one is of the past."""

@@ -21,7 +21,7 @@ async def held() -> tuple[list[int], list[int]]:
     of more later; and how many were dropped each time."""
     lengths: list[int] = []
     take = lambda _topic, payload: lengths.append(len(payload))
-    broker, dropped = Broker(Access(Address("h", 1)), "one", [], take, is_kept=False), []
+    broker, dropped = Broker(Access((Address("h", 1),)), "one", [], take, is_kept=False), []
     for length in [LONGEST] * (ROOM + 5) + [LONGEST + 1]:
         broker.on_message(None, None, message(length))
     dropped.append(broker.dropped())

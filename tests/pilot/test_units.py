@@ -22,8 +22,10 @@ MOST = 2.5
 BY_TLS = (
     "bozintar-applications-mqtt@.service",
     "bozintar-door.service",
+    "bozintar-follow.service",
     "bozintar-gateways-mqtt.service",
     "bozintar-readings@.service",
+    "bozintar-store@.service",
     "bozintar-web-console.service",
     "mosquitto.service.d/bozintar.conf",
     "stunnel@bozintar.service.d/again.conf",

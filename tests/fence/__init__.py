@@ -1,0 +1,1 @@
+"""Trials of the fence: which file of a store may be served."""
