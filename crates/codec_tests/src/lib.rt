@@ -18,6 +18,8 @@ mod gateway_wire_tests;
 #[cfg(test)]
 mod link_fixtures;
 #[cfg(test)]
+mod lists_tests;
+#[cfg(test)]
 mod record_codec_tests;
 #[cfg(test)]
 mod store_layout_tests;

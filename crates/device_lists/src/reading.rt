@@ -4,7 +4,7 @@ ghost use Rattle.std.specs.List.{AllByRecursion};
 ghost use Rattle.device_lists.specs.Lists.{IsAskedFor, IsRefusedList, IsTaken};
 
 use crate::{Column, FaultyLine, Fields, LineFault, ListFault, amendment_of, importing_of};
-use csv::{ByteRecord, Error, ReaderBuilder, StringRecord};
+use csv::{ByteRecord, ReaderBuilder, StringRecord};
 use device_changes::{Change, FaultyRow};
 use std::alloc::{AllocError, Global};
 
@@ -27,26 +27,55 @@ pub struct DeviceList {
 }
 
 /// The changes that a list asks for. If a line is faulty, the refusal has each faulty line, in
-/// order. The text may begin with a byte order mark; values may stand in quotation marks; a line
-/// that is empty or begins with `#` is skipped.
+/// order. The text may begin with a byte order mark, and values may stand in quotation marks. A
+/// line that is empty or begins with `#` is skipped, and counted.
 pub fn read_list(alloc: Global, text: &[u8], usage: ListUse) -> Result<DeviceList, ListFault>
     ensures changes { IfOk result
         (λ list. AllByRecursion (IsAskedFor usage) list.changes.items) }
     ensures lines { IfOk result (λ list. length list.lines.items ≡ length list.changes.items) }
     ensures refused { IfErr result IsRefusedList }
 {
-    let mut rows = ReaderBuilder::new()
-        .has_headers(false)
-        .flexible(true)
-        .comment(Some(b'#'))
-        .from_reader(alloc, text)
-        .into_byte_records();
-    let head = head_of(alloc, rows.next())?;
+    // empty before the head, which has at least a DevEUI
+    let mut head = Vec::new(alloc);
     let mut reading = Reading::new(alloc);
-    for row in rows {
-        reading.take(read_line(head.as_slice(), row?, usage))?;
+    let mut number = 0;
+    for line in text.split(|byte| *byte == b'\n') {
+        number = next_number(number);
+        if let Some(row) = row_in(alloc, line)? {
+            if head.is_empty() {
+                head = head_of(alloc, number, row)?;
+            } else {
+                reading.take(read_line(head.as_slice(), number, row, usage))?;
+            }
+        }
+    }
+    if head.is_empty() {
+        return Err(only_fault(alloc, 1, LineFault::Missing(Column::DevEui)));
     }
     reading.end()
+}
+
+// The number of the next line.
+fn next_number(number: u64) -> u64 {
+    number.saturating_add(1)
+}
+
+// The values of a line; `None` if it is skipped.
+fn row_in(alloc: Global, line: &[u8]) -> Result<Option<ByteRecord>, ListFault>
+    ensures { IfErr result IsRefusedList }
+{
+    if matches!(line.first(), None | Some(b'#')) {
+        return Ok(None);
+    }
+    let mut reader = ReaderBuilder::new()
+        .has_headers(false)
+        .from_reader(alloc, line);
+    let mut row = ByteRecord::new(alloc);
+    if reader.read_byte_record(&mut row)? {
+        Ok(Some(row))
+    } else {
+        Ok(None)
+    }
 }
 
 impl DeviceList {
@@ -117,18 +146,10 @@ impl Reading {
     }
 }
 
-// The columns that the first line names. Without one, the list is faulty.
-fn head_of(
-    alloc: Global,
-    first: Option<Result<ByteRecord, Error>>,
-) -> Result<Vec<Column>, ListFault>
+// The columns that the first line names.
+fn head_of(alloc: Global, line: u64, row: ByteRecord) -> Result<Vec<Column>, ListFault>
     ensures { IfErr result IsRefusedList }
 {
-    let Some(row) = first else {
-        return Err(only_fault(alloc, 1, LineFault::Missing(Column::DevEui)));
-    };
-    let row = row?;
-    let line = line_of(&row);
     let Ok(row) = StringRecord::from_byte_record(row) else {
         return Err(only_fault(alloc, line, LineFault::Text));
     };
@@ -150,20 +171,15 @@ fn only_fault(alloc: Global, line: u64, fault: LineFault) -> ListFault
     }
 }
 
-// The number of a line, counted from 1.
-fn line_of(row: &ByteRecord) -> u64 {
-    row.position().map_or(1, |position| position.line)
-}
-
 // A line's number, and the change that it asks for.
 fn read_line(
     head: &[Column],
+    line: u64,
     row: ByteRecord,
     usage: ListUse,
 ) -> Result<(u64, Change), FaultyLine>
     ensures { IfOk result (λ read. IsAskedFor usage read.1) }
 {
-    let line = line_of(&row);
     let read = match StringRecord::from_byte_record(row) {
         Ok(row) => change_in(head, &row, usage),
         Err(_) => Err(LineFault::Text),

@@ -1,5 +1,5 @@
 use Rattle.device_lists.proofs.Taken.{IsListFor}
 use Rattle.device_lists.proofs.reading.read_list.Given as goal
 
-abbrev pub invariant-loop-row : goal.invariant-loop-row
-invariant-loop-row l = IsListFor l.fn.usage l.reading
+abbrev pub invariant-loop-line : goal.invariant-loop-line
+invariant-loop-line l = IsListFor l.fn.usage l.reading
