@@ -62,7 +62,7 @@ def label(of: Object) -> str:
 
 
 def used_nonces(of: Object) -> Any:
-    """The used DevNonces: an array in the order of their use or, from version 4.11 on, an object
+    """The used DevNonces: an array in the order of their use or, in later versions, an object
     with an array without order for each JoinEUI. CSV has them as an array of PostgreSQL or as
     JSON."""
     value: Any = of.get("devnonces")
