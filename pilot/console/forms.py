@@ -18,9 +18,9 @@ FIELDS = {
     "eui": "DevEUI",
     "join": "JoinEUI",
     "key": "AppKey",
-    "offset": "offset",
-    "delay": "delay",
-    "name": "name",
+    "offset": "Offset",
+    "delay": "Delay",
+    "name": "Name",
 }
 # of these, what a page may show again
 SHOWN = ("eui", "join", "offset", "delay", "name", "application")
@@ -98,4 +98,5 @@ def devices(form: Form) -> Devices:
         found = in_lines("\n".join(text for text in texts if text.strip()).splitlines())
     if len(found.rows) + len(found.faults) > MOST_ROWS:
         raise ValueError(f"There are more than {MOST_ROWS} devices.")
+    found.refuse(form.get("application", ""))
     return found

@@ -168,8 +168,8 @@ def test_one_device(console: Console) -> None:
         ("join", "1", "JoinEUI isn't 16 hex digits."),
         ("key", "", "there is no AppKey."),
         ("key", KEY[1:], "AppKey isn't 32 hex digits."),
-        ("offset", "6", "the offset is no number from 0 to 5."),
-        ("delay", "16", "the delay is no number from 1 to 15."),
+        ("offset", "6", "Offset isn't a number from 0 to 5."),
+        ("delay", "16", "Delay isn't a number from 1 to 15."),
     ],
 )
 def test_wrong_device(console: Console, name: str, value: str, why: str) -> None:

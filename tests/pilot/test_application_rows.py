@@ -1,13 +1,11 @@
 """Rows of what is translated between the network and applications, each value by the public text of
 its format: ChirpStack's events and commands (version 4), docs/FORMATS.md."""
 
-import tempfile
 from pathlib import Path
 from typing import Any
 
 import pytest
 from bozintar.fields import Wrong
-from bridges import devices
 from bridges.application_events import Translator, command_in, refusal, status
 from bridges.names import IN_USE, Names
 
@@ -108,53 +106,6 @@ MAC_COMMANDS: tuple = (
     ('{"commands":6}', Wrong),
 )
 
-KEY = "2B7E151628AED2A6ABF7158809CF4F3C"
-# a file of devices, and what is read: requests, or what is wrong with a line
-FILES: tuple = (
-    (f"{DEVICE},0102030405060708,{KEY}\n", [f"{DEVICE} 0102030405060708 {KEY} 0 1"]),
-    (f"{DEVICE};0102030405060708;{KEY.lower()};5;15", [f"{DEVICE} 0102030405060708 {KEY} 5 15"]),
-    (
-        f'\ufeffDev EUI,Join EUI,App Key\r\n"{DEVICE}" , 01-02-03-04-05-06-07-08,{KEY},2 # roof',
-        [f"{DEVICE} 0102030405060708 {KEY} 2 1"],
-    ),
-    (
-        f"DevEUI,JoinEUI,AppKey,RX1DROffset,RXDelay\n{DEVICE},0102030405060708,{KEY},0,5\n",
-        [f"{DEVICE} 0102030405060708 {KEY} 0 5"],
-    ),
-    (
-        f"{DEVICE},0102030405060708,{KEY}\nDevEUI,JoinEUI,AppKey\n",
-        [f"{DEVICE} 0102030405060708 {KEY} 0 1", "line 2: DevEUI isn't 16 hex digits"],
-    ),
-    ("# nothing\n\n", []),
-    (
-        f'name;AppKey;JoinEUI;DevEUI\n"Roof; #5, north";{KEY};0102030405060708;{DEVICE}\n',
-        [f"{DEVICE} 0102030405060708 {KEY} 0 1 Roof; #5, north"],
-    ),
-    (
-        f"{DEVICE},0102030405060708,0x{KEY},0,1,Dach S\u00fcd,\n",
-        [f"{DEVICE} 0102030405060708 {KEY} 0 1 Dach S\u00fcd"],
-    ),
-    (
-        f"DevEUI,JoinEUI,AppKey,place\n{DEVICE},0102030405060708,{KEY},roof\n",
-        [f"{DEVICE} 0102030405060708 {KEY} 0 1", "the column 'place' isn't used"],
-    ),
-    # a quote that isn't closed spoils its own line alone
-    (
-        f'"{DEVICE},0102030405060708,{KEY}\n{DEVICE},0102030405060708,{KEY}\n',
-        [f"{DEVICE} 0102030405060708 {KEY} 0 1", "line 1: there is no JoinEUI, AppKey"],
-    ),
-    (
-        f"{DEVICE},0102030405060708,{KEY}\n\n{DEVICE},0102030405060709,{KEY}\n",
-        [f"{DEVICE} 0102030405060708 {KEY} 0 1", f"line 3: {DEVICE} is in line 1, too"],
-    ),
-    (f"{DEVICE},0102030405060708,{KEY},0,1,x,y", ["line 1: there is more than the 6 columns"]),
-    ("\0,\0,\0", ["line 1: DevEUI isn't 16 hex digits"]),
-    (f"{DEVICE},0102030405060708,{KEY}0", ["line 1: AppKey isn't 32 hex digits"]),
-    (f"{DEVICE},0102030405060708,{KEY},6", ["line 1: the offset is no number from 0 to 5"]),
-    (f"{DEVICE},0102030405060708,{KEY},0,0", ["line 1: the delay is no number from 1 to 15"]),
-    (f"\n{DEVICE}", ["line 2: there is no JoinEUI, AppKey"]),
-)
-
 # a line that refuses, and its code
 REFUSED: tuple = (("refused 12", "QUEUE_FULL"), ("refused 99", "REFUSED_99"))
 REFUSED += ((f"refused 12 {LATER}", "QUEUE_FULL"), ("refused 1 2", "REFUSED_1"))
@@ -178,16 +129,6 @@ def asked(text: str, kind: str = "down") -> str:
     """The request of a command."""
     topic = f"application/3/device/{DEVICE.lower()}/command/{kind}"
     return command_in(topic, 3, text.encode()).line(8)
-
-
-def read(text: str, encoding: str = "utf-8") -> list[str]:
-    """What is read of a file of devices: requests with names, and what is wrong."""
-    with tempfile.NamedTemporaryFile() as file:
-        file.write(text.encode(encoding))
-        file.flush()
-        found = devices.read(file.name)
-    lines = [f"{row.line().removeprefix('provision ')} {row.name}".strip() for row in found.rows]
-    return lines + found.complaints()
 
 
 @pytest.mark.parametrize("more", ("", f" {LATER}"), ids=("today", "later"))
@@ -293,18 +234,6 @@ def test_ids_after_a_restart(folder: Path) -> None:
 def test_refusal(line: str, code: str) -> None:
     """The code of what the network refuses."""
     assert refusal(line)[0] == code
-
-
-@table("text, due", FILES)
-def test_devices(text: str, due: Any) -> None:
-    """What is read of a file of devices."""
-    assert read(text) == due
-
-
-def test_devices_of_a_table_program() -> None:
-    """Excel's "Unicode text" is UTF-16 with tabs."""
-    text = f"DevEUI\tJoinEUI\tAppKey\tName\r\n{DEVICE}\t0102030405060708\t{KEY}\tDach\r\n"
-    assert read(text, "utf-16") == [f"{DEVICE} 0102030405060708 {KEY} 0 1 Dach"]
 
 
 def test_name_of_a_device() -> None:

@@ -189,7 +189,7 @@ def test_devices_again(whole: Whole) -> None:
     await_that("told", lambda: part.has_said("devices are there", said))
     told = [line.partition("  ")[2] for line in part.said()[said:].splitlines()]
     assert f"line 6: {other.dev_eui} is provisioned, in slot 5" in told
-    assert "line 7: there is no JoinEUI, AppKey" in told
+    assert f"{whole.file} line 7: there is no JoinEUI, AppKey" in told
     of_another = "a device of another application has this DevEUI"
     assert f"line 9: {third.dev_eui}: {of_another}" in told
     due = "5 devices are there, 2 aren't; 4 were there before: their keys were not compared"
@@ -201,7 +201,7 @@ CHECKED = (
     (
         "{row}\n\n{row}0\n",
         1,
-        ["line 3: AppKey isn't 32 hex digits", "{file}: 1 devices, 1 lines with a fault"],
+        ["{file} line 3: AppKey isn't 32 hex digits", "{file}: 1 devices, 1 lines with a fault"],
     ),
 )
 

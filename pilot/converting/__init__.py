@@ -1,0 +1,1 @@
+"""Exports of other network servers, and the devices in them."""

@@ -1,0 +1,42 @@
+"""200 devices that are imported, amended, retired and let in again, while their store grows in the
+middle of their sessions. Each command is killed at random moments, and in calls of its disk. The
+judge knows frames from the standard alone."""
+
+import random
+from collections.abc import Iterator
+
+import pytest
+from bozintar.server import Program
+
+from ..conftest import Environment
+from .commands import Commands
+from .play import Play
+
+
+@pytest.fixture
+def commands(program: str, seed: int, with_disk: Environment) -> Iterator[Commands]:
+    """The commands of a store that isn't there yet. A program without them skips the trial."""
+    with Program(program) as made:
+        if made.run("export", "--help")[0]:
+            pytest.skip("this lnsd has no commands for devices: it doesn't know lnsd export --help")
+        yield Commands(made, random.Random(seed), with_disk)
+
+
+@pytest.mark.slow
+def test_changes(commands: Commands) -> None:
+    """No counter, JoinNonce or keystream comes twice, and the sessions that should stay do."""
+    play = Play(commands)
+    play.make()
+    play.go_on()
+    play.amend()
+    play.retire()
+    play.go_on()
+    play.let_in()
+    play.grow()
+    play.go_on()
+    play.import_more()
+    play.go_on()
+    play.check()
+    ups, accepts, downlinks, _ = play.seen.counts()
+    print(f"{ups} uplinks, {accepts} joins, {downlinks} downlinks")
+    print(f"commands were killed {commands.killed} times before they were done")
