@@ -1,6 +1,6 @@
 // Lists of devices. The texts and what they ask for were written by hand, by docs/DEVICES.md.
-use LineFault::{ColumnTwice, Count, Missing, Text, UnknownColumn, Value};
 use crate::fixtures::{DEVICE, current, new_device};
+use LineFault::{ColumnTwice, Count, Missing, Text, UnknownColumn, Value};
 use device_changes::{Amendment, Change, FaultyRow, Importing, RowFault};
 use device_lists::{
     AppKeys, Column, LineFault, ListFault, ListUse, list_of, read_list, text_of_faults,
@@ -79,7 +79,14 @@ fn a_list_has_columns_in_any_order(rt: HostRuntime) {
 
 // What a line asks for beside the DevEUI: whether there is an AppKey, the application, the offset,
 // the delay and the last nonces.
-type Amended = (bool, Option<u64>, Option<u64>, Option<u64>, Option<Option<u16>>, Option<u64>);
+type Amended = (
+    bool,
+    Option<u64>,
+    Option<u64>,
+    Option<u64>,
+    Option<Option<u16>>,
+    Option<u64>,
+);
 
 fn amended_in(amendment: &Amendment) -> Amended {
     (
@@ -104,7 +111,10 @@ fn amendment_in(alloc: Global, text: &str) -> Option<Amended> {
 }
 
 const AMENDMENTS: &[(&str, Amended)] = &[
-    ("DevEUI\n70B3D57ED0000001\n", (false, None, None, None, None, None)),
+    (
+        "DevEUI\n70B3D57ED0000001\n",
+        (false, None, None, None, None, None),
+    ),
     (
         "DevEUI,LastDevNonce\n70B3D57ED0000001,\n",
         (false, None, None, None, Some(None), None),
@@ -130,11 +140,7 @@ fn an_amendment_leaves_what_is_missing(rt: HostRuntime) {
 }
 
 // The faulty lines of a list.
-fn faults_in(
-    alloc: Global,
-    text: &[u8],
-    usage: ListUse,
-) -> Result<Vec<(u64, LineFault)>, Refusal> {
+fn faults_in(alloc: Global, text: &[u8], usage: ListUse) -> Result<Vec<(u64, LineFault)>, Refusal> {
     let mut found = Vec::new(alloc);
     match read_list(alloc, text, usage) {
         Ok(_) => Ok(found),
@@ -153,7 +159,10 @@ const FAULTS: &[(&[u8], &[(u64, LineFault)])] = &[
     (b"DevEUI\n", &[]),
     (b"JoinEUI\n", &[(1, Missing(Column::DevEui))]),
     (b"DevEUI,LastJoinNonse\n", &[(1, UnknownColumn(2))]),
-    (b"DevEUI,Delay,DevEUI\n", &[(1, ColumnTwice(Column::DevEui))]),
+    (
+        b"DevEUI,Delay,DevEUI\n",
+        &[(1, ColumnTwice(Column::DevEui))],
+    ),
     (b"DevEUI,\xFF\n", &[(1, Text)]),
     (
         b"DevEUI,Delay\n70B3D57ED0000001\n\n# more\n70B3D57ED0000002,16\n,5\n70B3D57ED0000003,5,\n",

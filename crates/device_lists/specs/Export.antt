@@ -46,15 +46,15 @@ progress_values d =
     nonce_field d.last_dev_nonce ∷ decimal (unwrap_or d.activation.granted 0)
     ∷ decimal d.heard ∷ yes_or_no (has_session d.activation) ∷ []
 
-abbrev pub device_line : AppKeys → Device → List ℕ
-device_line keys d =
+abbrev pub csv_line : AppKeys → Device → List ℕ
+csv_line keys d =
     values_text (identity_values keys d) ++ 44 ∷ values_text (settings_values d)
     ++ 44 ∷ values_text (progress_values d) ++ 10 ∷ []
 
-abbrev pub device_lines : AppKeys → List Device → List ℕ
-device_lines keys [] = []
-device_lines keys (d ∷ devices) = device_line keys d ++ device_lines keys devices
+abbrev pub csv_lines : AppKeys → List Device → List ℕ
+csv_lines keys [] = []
+csv_lines keys (d ∷ devices) = csv_line keys d ++ csv_lines keys devices
 
 -- a head, and a line for each device
-abbrev pub list_text : AppKeys → List Device → List ℕ
-list_text keys devices = head_line ++ device_lines keys devices
+abbrev pub csv_text : AppKeys → List Device → List ℕ
+csv_text keys devices = head_line ++ csv_lines keys devices

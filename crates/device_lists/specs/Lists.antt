@@ -5,20 +5,20 @@ use Rattle.device_changes.specs.declared.change.Change.TheVariants as change
 use Rattle.device_lists.specs.declared.fault.FaultyLine.{FaultyLine}
 use Rattle.device_lists.specs.declared.fault.ListFault.{ListFault}
 use Rattle.device_lists.specs.declared.fault.ListFault.TheVariants.{Lines, OutOfMemory}
-use Rattle.device_lists.specs.declared.fields.Fields.{Fields}
+use Rattle.device_lists.specs.declared.line_values.LineValues.{LineValues}
 use Rattle.device_lists.specs.declared.reading.ListUse.{ListUse}
 use Rattle.device_lists.specs.declared.reading.Reading.{Reading}
 use Rattle.device_lists.specs.declared.reading.ListUse.TheVariants.{Import, Amend}
 use Rattle.device_lists.specs.Values.{IsAmendmentOf, IsImportOf}
 
 -- some line of a list for this use asks for a change
-abbrev pub IsAskedFor : ListUse → Change → Type 0
-IsAskedFor Import (change.Import i) = (f : Fields) × IsImportOf f i
-IsAskedFor Import (change.Amend a) = ⊥
-IsAskedFor Import (change.Retire r) = ⊥
-IsAskedFor Amend (change.Import i) = ⊥
-IsAskedFor Amend (change.Amend a) = (f : Fields) × IsAmendmentOf f a
-IsAskedFor Amend (change.Retire r) = ⊥
+abbrev pub IsListedChange : ListUse → Change → Type 0
+IsListedChange Import (change.Import i) = (f : LineValues) × IsImportOf f i
+IsListedChange Import (change.Amend a) = ⊥
+IsListedChange Import (change.Retire r) = ⊥
+IsListedChange Amend (change.Import i) = ⊥
+IsListedChange Amend (change.Amend a) = (f : LineValues) × IsAmendmentOf f a
+IsListedChange Amend (change.Retire r) = ⊥
 
 -- a refusal has a faulty line, or memory ran out
 abbrev pub IsRefusedList : ListFault → Type 0

@@ -1,13 +1,13 @@
 -- What the values of a line say.
 use Rattle.std.specs.Prelude.{◌≡◌, ◌⊎◌, ◌<◌, ◌≤◌, ◌-◌, ◌^◌, ℕ, Bool, true, false, List, []}
-use Rattle.std.specs.Prelude.{Option, Some, None, codes, length, option_map}
+use Rattle.std.specs.Prelude.{Option, Some, None, codes, option_map}
 use Rattle.std.specs.Fmt.{decimal}
-use Rattle.lw_types.specs.Hex.{IsBytes, eui_text, key_text}
+use Rattle.lw_types.specs.Hex.{eui_text, key_text}
+use Rattle.lw_types.specs.Values.{IsKey}
 use Rattle.lw_types.specs.declared.identifiers.Eui.{Eui}
-use Rattle.lw_types.specs.declared.key.Key.{Key}
 use Rattle.device_changes.specs.declared.change.Amendment.{Amendment}
 use Rattle.device_changes.specs.declared.change.Importing.{Importing}
-use Rattle.device_lists.specs.declared.fields.Fields.{Fields}
+use Rattle.device_lists.specs.declared.line_values.LineValues.{LineValues}
 use denote.Ref.{Bor}
 
 -- the text under a column, if the list has the column
@@ -37,9 +37,6 @@ MayBeGiven IsValue text_of field (Some x) = (¬ (IsAbsent field)) × IsGiven IsV
 abbrev pub IsEui : Eui → Type 0
 IsEui eui = eui.0 < 2 ^ 64
 
-abbrev pub IsKey : Key → Type 0
-IsKey key = IsBytes key.0 × (length key.0 ≡ 16)
-
 abbrev pub IsIn : ℕ → ℕ → ℕ → Type 0
 IsIn least most n = (least ≤ n) × (n ≤ most)
 
@@ -54,12 +51,12 @@ yes_or_no false = codes "no"
 -- ---- lines
 
 -- what isn't used is right, too: the count of uplinks, and whether there is a session
-pub record HasRest (f : Fields) : Type 0 where
+pub record HasRest (f : LineValues) : Type 0 where
   pub heard : (n : Option ℕ) × MayBeGiven (IsIn 0 (2 ^ 63 - 1)) decimal (text_in f.heard) n
   pub session : (s : Option Bool) × MayBeGiven (λ _. Unit {0}) yes_or_no (text_in f.session) s
 
 -- a line asks for an import
-pub record IsImportOf (f : Fields) (i : Importing) : Type 0 where
+pub record IsImportOf (f : LineValues) (i : Importing) : Type 0 where
   pub dev_eui : IsGiven IsEui eui_text (text_in f.dev_eui) i.provisioning.dev_eui
   pub join_eui : IsGiven IsEui eui_text (text_in f.join_eui) i.provisioning.join_eui
   pub app_key : IsGiven IsKey key_text (text_in f.app_key) i.provisioning.app_key
@@ -78,7 +75,7 @@ IsNonceChange (Some text) None = ⊥
 IsNonceChange (Some text) (Some nonce) = MayBeGiven IsDevNonce decimal (Some text) nonce
 
 -- a line asks for an amendment
-pub record IsAmendmentOf (f : Fields) (a : Amendment) : Type 0 where
+pub record IsAmendmentOf (f : LineValues) (a : Amendment) : Type 0 where
   pub dev_eui : IsGiven IsEui eui_text (text_in f.dev_eui) a.dev_eui
   pub app_key : MayBeGiven IsKey key_text (text_in f.app_key) a.app_key
   pub application : MayBeGiven (IsIn 0 15) decimal (text_in f.application) a.application

@@ -2,7 +2,7 @@
 ghost use Rattle.std.specs.Prelude.{◌≡◌, ◌∷◌, ◌++◌, [], IfOk, string_bytes, unwrap_or};
 ghost use Rattle.std.specs.Fmt.{decimal};
 ghost use Rattle.lw_types.specs.Hex.{eui_text};
-ghost use Rattle.device_lists.specs.Export.{device_line, has_session, key_field, list_text};
+ghost use Rattle.device_lists.specs.Export.{csv_line, has_session, key_field, csv_text};
 ghost use Rattle.device_lists.specs.Export.{nonce_field, settings_values, values_text};
 ghost use Rattle.device_lists.specs.Values.{yes_or_no};
 
@@ -22,18 +22,18 @@ pub enum AppKeys {
 
 /// The list of these devices, a line each. Fails only if memory runs out.
 pub fn list_of(alloc: Global, devices: &[Device], keys: AppKeys) -> Result<String, AllocError>
-    ensures { IfOk result (λ text. string_bytes text ≡ list_text keys devices.now) }
+    ensures { IfOk result (λ text. string_bytes text ≡ csv_text keys devices.now) }
 {
     let mut text = String::from_str(alloc, HEAD)?;
     for device in devices {
-        let line = device_line(alloc, device, keys)?;
+        let line = csv_line(alloc, device, keys)?;
         text.push_str(line.as_str())?;
     }
     Ok(text)
 }
 
-fn device_line(alloc: Global, device: &Device, keys: AppKeys) -> Result<String, AllocError>
-    ensures { IfOk result (λ text. string_bytes text ≡ device_line keys device.now) }
+fn csv_line(alloc: Global, device: &Device, keys: AppKeys) -> Result<String, AllocError>
+    ensures { IfOk result (λ text. string_bytes text ≡ csv_line keys device.now) }
 {
     let key = key_field(alloc, &device.app_key, keys)?;
     let nonce = nonce_field(alloc, device.last_dev_nonce)?;
@@ -70,7 +70,7 @@ fn progress_text(alloc: Global, device: &Device, nonce: &str) -> Result<String, 
         ∷ decimal (unwrap_or device.now.activation.granted 0) ∷ decimal device.now.heard
         ∷ yes_or_no (has_session device.now.activation) ∷ []) ++ 10 ∷ []) }
 {
-    let granted = granted_number(&device.activation);
+    let granted = last_granted_of(&device.activation);
     let heard = device.heard.get();
     let session = session_field(&device.activation);
     Ok(format!(in alloc; "{nonce},{granted},{heard},{session}\n")?)
@@ -97,7 +97,7 @@ fn nonce_field(alloc: Global, nonce: Option<u16>) -> Result<String, AllocError>
 }
 
 // The last granted JoinNonce, 0 if there is none.
-fn granted_number(activation: &Activation) -> u32
+fn last_granted_of(activation: &Activation) -> u32
     ensures { result ≡ unwrap_or activation.now.granted 0 }
 {
     activation.granted().map_or(0, JoinNonce::get)

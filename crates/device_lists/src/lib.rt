@@ -5,13 +5,13 @@
 mod column;
 mod export;
 mod fault;
-mod fields;
+mod line_values;
 mod reading;
 mod values;
 
 pub use column::Column;
 pub use export::{AppKeys, list_of};
 pub use fault::{FaultyLine, LineFault, ListFault, row_text, text_of_faults};
-pub use fields::Fields;
+pub use line_values::LineValues;
 pub use reading::{DeviceList, ListUse, read_list};
 pub use values::{amendment_of, importing_of};

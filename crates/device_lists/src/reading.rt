@@ -1,9 +1,9 @@
 // Reading a list.
 ghost use Rattle.std.specs.Prelude.{◌≡◌, [], length, IfErr, IfOk, MatchResult, OnOk};
 ghost use Rattle.std.specs.List.{AllByRecursion};
-ghost use Rattle.device_lists.specs.Lists.{IsAskedFor, IsRefusedList, IsTaken};
+ghost use Rattle.device_lists.specs.Lists.{IsListedChange, IsRefusedList, IsTaken};
 
-use crate::{Column, FaultyLine, Fields, LineFault, ListFault, amendment_of, importing_of};
+use crate::{Column, FaultyLine, LineFault, LineValues, ListFault, amendment_of, importing_of};
 use csv::{ByteRecord, ReaderBuilder, StringRecord};
 use device_changes::{Change, FaultyRow};
 use std::alloc::{AllocError, Global};
@@ -31,7 +31,7 @@ pub struct DeviceList {
 /// line that is empty or begins with `#` is skipped, and counted.
 pub fn read_list(alloc: Global, text: &[u8], usage: ListUse) -> Result<DeviceList, ListFault>
     ensures changes { IfOk result
-        (λ list. AllByRecursion (IsAskedFor usage) list.changes.items) }
+        (λ list. AllByRecursion (IsListedChange usage) list.changes.items) }
     ensures lines { IfOk result (λ list. length list.lines.items ≡ length list.changes.items) }
     ensures refused { IfErr result IsRefusedList }
 {
@@ -43,9 +43,9 @@ pub fn read_list(alloc: Global, text: &[u8], usage: ListUse) -> Result<DeviceLis
         number = next_number(number);
         if let Some(row) = row_in(alloc, line)? {
             if head.is_empty() {
-                head = head_of(alloc, number, row)?;
+                head = columns_of(alloc, number, row)?;
             } else {
-                reading.take(read_line(head.as_slice(), number, row, usage))?;
+                reading.take(numbered_change(head.as_slice(), number, row, usage))?;
             }
         }
     }
@@ -147,14 +147,14 @@ impl Reading {
 }
 
 // The columns that the first line names.
-fn head_of(alloc: Global, line: u64, row: ByteRecord) -> Result<Vec<Column>, ListFault>
+fn columns_of(alloc: Global, line: u64, row: ByteRecord) -> Result<Vec<Column>, ListFault>
     ensures { IfErr result IsRefusedList }
 {
     let Ok(row) = StringRecord::from_byte_record(row) else {
         return Err(only_fault(alloc, line, LineFault::Text));
     };
     let mut head = Vec::new(alloc);
-    match read_head(&mut head, &row)? {
+    match read_columns(&mut head, &row)? {
         Ok(()) => Ok(head),
         Err(fault) => Err(only_fault(alloc, line, fault)),
     }
@@ -172,16 +172,16 @@ fn only_fault(alloc: Global, line: u64, fault: LineFault) -> ListFault
 }
 
 // A line's number, and the change that it asks for.
-fn read_line(
+fn numbered_change(
     head: &[Column],
     line: u64,
     row: ByteRecord,
     usage: ListUse,
 ) -> Result<(u64, Change), FaultyLine>
-    ensures { IfOk result (λ read. IsAskedFor usage read.1) }
+    ensures { IfOk result (λ read. IsListedChange usage read.1) }
 {
     let read = match StringRecord::from_byte_record(row) {
-        Ok(row) => change_in(head, &row, usage),
+        Ok(row) => listed_change(head, &row, usage),
         Err(_) => Err(LineFault::Text),
     };
     match read {
@@ -191,7 +191,7 @@ fn read_line(
 }
 
 // The columns that the first line names, each once, DevEUI among them.
-fn read_head(
+fn read_columns(
     head: &mut Vec<Column>,
     row: &StringRecord,
 ) -> Result<Result<(), LineFault>, AllocError> {
@@ -212,13 +212,13 @@ fn read_head(
 }
 
 // The change that a line asks for.
-fn change_in(head: &[Column], row: &StringRecord, usage: ListUse) -> Result<Change, LineFault>
-    ensures { IfOk result (IsAskedFor usage) }
+fn listed_change(head: &[Column], row: &StringRecord, usage: ListUse) -> Result<Change, LineFault>
+    ensures { IfOk result (IsListedChange usage) }
 {
     if row.len() != head.len() {
         return Err(LineFault::Count);
     }
-    let mut fields = Fields::NONE;
+    let mut fields = LineValues::NONE;
     for (column, value) in head.iter().zip(row.into_iter()) {
         fields = fields.with(*column, value);
     }

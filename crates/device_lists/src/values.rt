@@ -5,7 +5,7 @@ ghost use Rattle.device_lists.specs.Values.{HasRest, IsAmendmentOf, IsGiven, IsG
 ghost use Rattle.device_lists.specs.Values.{IsImportOf, IsNonceChange, MayBeGiven};
 ghost use Rattle.device_lists.specs.Values.{text_in};
 
-use crate::{Column, Fields, LineFault};
+use crate::{Column, LineFault, LineValues};
 use device_changes::{Amendment, Importing, LastJoinNonce};
 use devices::{Provisioning, Ranged, Rx1Offset, RxDelay};
 use lw_types::FromText;
@@ -13,7 +13,7 @@ use lw_types::FromText;
 /// The import that a line asks for. Refused exactly if it asks for none, because a value is missing
 /// or is none of its column. Offset and Delay are 0 and 1 if they are missing, and the last nonces
 /// are none and 0.
-pub fn importing_of(fields: &Fields<'_>) -> Result<Importing, LineFault>
+pub fn importing_of(fields: &LineValues<'_>) -> Result<Importing, LineFault>
     ensures { MatchResult result (λ i. IsImportOf fields.now i)
         (λ _. (i : Importing) → ¬ (IsImportOf fields.now i)) }
 {
@@ -24,8 +24,11 @@ pub fn importing_of(fields: &Fields<'_>) -> Result<Importing, LineFault>
     let rx1_offset = number_or(Column::Offset, fields.offset, usual_offset())?;
     let rx_delay = number_or(Column::Delay, fields.delay, usual_delay())?;
     let last_dev_nonce = may_be_given(Column::LastDevNonce, fields.last_dev_nonce)?;
-    let last_join_nonce =
-        number_or(Column::LastJoinNonce, fields.last_join_nonce, no_join_nonce())?;
+    let last_join_nonce = number_or(
+        Column::LastJoinNonce,
+        fields.last_join_nonce,
+        no_join_nonce(),
+    )?;
     check_rest(fields)?;
     let provisioning = Provisioning {
         application: application.0,
@@ -62,7 +65,7 @@ fn no_join_nonce() -> LastJoinNonce
 
 /// The amendment that a line asks for: what is missing stays as it is. Refused exactly if it asks
 /// for none, because there is no DevEUI, or because a value is none of its column.
-pub fn amendment_of(fields: &Fields<'_>) -> Result<Amendment, LineFault>
+pub fn amendment_of(fields: &LineValues<'_>) -> Result<Amendment, LineFault>
     ensures { MatchResult result (λ a. IsAmendmentOf fields.now a)
         (λ _. (a : Amendment) → ¬ (IsAmendmentOf fields.now a)) }
 {
@@ -200,11 +203,13 @@ fn nonce_change(field: Option<&str>) -> Result<Option<Option<u16>>, LineFault>
 }
 
 // The values that aren't used must be right, too: a faulty line is likely to be shifted.
-fn check_rest(fields: &Fields<'_>) -> Result<(), LineFault>
+fn check_rest(fields: &LineValues<'_>) -> Result<(), LineFault>
     ensures { MatchResult result (λ _. HasRest fields.now) (λ _. ¬ (HasRest fields.now)) }
 {
-    let _heard: Option<Decimal<0, 9_223_372_036_854_775_807>> =
-        may_be_given(Column::Heard, fields.heard)?;
+    let _heard: Option<Decimal<0, 9_223_372_036_854_775_807>> = may_be_given(
+        Column::Heard,
+        fields.heard,
+    )?;
     let _session: Option<YesOrNo> = may_be_given(Column::Session, fields.session)?;
     Ok(())
 }

@@ -219,10 +219,10 @@ shut_or_held s settled image same =
     sym (get_or-take (front_len c.areas) content 0 0 some) ∙ ap (λ (l : List ℕ). get_or l 0 0) (holds.front ∙ settled.says.front) in
     elim (cases_eq (get_or image 0 0) OPEN) [
       | inl is ↦ inr (record {
-          version = newest;
-          contents = c;
-          holds = subst (Holds c) (sym (same_if_open content image same was is)) holds;
-          says = settled.says;
-        })
+        version = newest;
+        contents = c;
+        holds = subst (Holds c) (sym (same_if_open content image same was is)) holds;
+        says = settled.says;
+      })
       | inr other ↦ inl other
     ]

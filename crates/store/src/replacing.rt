@@ -10,11 +10,10 @@ ghost use Rattle.store.specs.Formatting.{IsShut};
 ghost use Rattle.store.specs.Image.{HoldsTable};
 ghost use Rattle.store.specs.declared.areas.TheConstants.{LAST_GENERATION};
 
-use crate::Store;
 use crate::areas::LAST_GENERATION;
 use crate::formatting::shut;
-use crate::laws;
 use crate::taking_over::publish;
+use crate::{Store, laws};
 use disk::Disk;
 use lw_types::Refusal;
 use sessions::Table;

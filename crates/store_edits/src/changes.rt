@@ -24,7 +24,7 @@ pub enum NotChanged<D> {
 
 /// Makes every change in a store's table, or none. The new table replaces the old one on the disk
 /// in one step: after a crash at any moment the disk holds one of the two.
-pub fn with_changes<D: Disk + Drop>(
+pub fn store_with_changes<D: Disk + Drop>(
     alloc: Global,
     store: Store<D>,
     rows: &[Change],

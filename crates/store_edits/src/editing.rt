@@ -1,6 +1,6 @@
 // Commands that change the devices of a store in a file.
 use crate::EditFault;
-use crate::changes::{NotChanged, NotGrown, grow_into, with_changes};
+use crate::changes::{NotChanged, NotGrown, grow_into, store_with_changes};
 use crate::reading::{NEXT_LINE, list_fault, random_key, read_changes};
 use device_changes::{
     Change, FaultyRow, GrowRefused, Refused, Retirement, changed_table, grown_table,
@@ -23,7 +23,7 @@ pub struct DryRun(pub bool);
 
 /// What a command did, or would do.
 #[derive(Clone, Copy, Debug, PartialEq, Eq)]
-pub struct Counts {
+pub struct EditCounts {
     /// How many devices were imported, amended or retired.
     pub changed: usize,
     /// How many devices the store has now.
@@ -37,32 +37,32 @@ pub struct Counts {
 }
 
 /// The list of the devices of the store in a file. Nothing is written to the file.
-pub fn export<R: Files<File = File>>(
+pub fn export_devices<R: Files<File = File>>(
     rt: &R,
     alloc: Global,
     file: &str,
     keys: AppKeys,
 ) -> Result<String, EditFault> {
-    let store = read_store(rt, alloc, file)?;
+    let store = open_for_reading(rt, alloc, file)?;
     Ok(list_of(alloc, store.table().devices(), keys)?)
 }
 
 /// Brings the devices of a list into the store in a file, with their last nonces and without
 /// sessions: all of them, or none if a line is faulty. A crash at any moment leaves the store as it
 /// was, or with all of them.
-pub fn import<R: Files<File = File>>(
+pub fn import_devices<R: Files<File = File>>(
     rt: &R,
     alloc: Global,
     csv: &str,
     file: &str,
     dry_run: DryRun,
-) -> Result<Counts, EditFault> {
+) -> Result<EditCounts, EditFault> {
     let list = read_changes(rt, alloc, csv, ListUse::Import)?;
     change_by_list(rt, alloc, csv, &list, file, dry_run)
 }
 
-/// Makes a store of the devices of a list in a new file, as [`import`] brings them.
-pub fn import_new<R: Files<File = File>>(
+/// Makes a store of the devices of a list in a new file, as [`import_devices`] brings them.
+pub fn import_as_new<R: Files<File = File>>(
     rt: &R,
     alloc: Global,
     csv: &str,
@@ -70,7 +70,7 @@ pub fn import_new<R: Files<File = File>>(
     net_id: NetId,
     slots: Slots,
     dry_run: DryRun,
-) -> Result<Counts, EditFault> {
+) -> Result<EditCounts, EditFault> {
     let list = read_changes(rt, alloc, csv, ListUse::Import)?;
     let empty = Table::new(alloc, net_id, slots)?;
     let table = match imported_table(alloc, net_id, slots, list.changes.as_slice()) {
@@ -86,30 +86,30 @@ pub fn import_new<R: Files<File = File>>(
 
 /// Changes devices of the store in a file by a list: all lines, or none if one is faulty. A crash
 /// at any moment leaves the store as it was, or with all changes.
-pub fn amend<R: Files<File = File>>(
+pub fn amend_devices<R: Files<File = File>>(
     rt: &R,
     alloc: Global,
     file: &str,
     csv: &str,
     dry_run: DryRun,
-) -> Result<Counts, EditFault> {
+) -> Result<EditCounts, EditFault> {
     let list = read_changes(rt, alloc, csv, ListUse::Amend)?;
     change_by_list(rt, alloc, csv, &list, file, dry_run)
 }
 
 /// Retires devices of the store in a file: all of them, or none if one is unknown or named twice.
 /// Each gets a random AppKey, so it can't join, and its frames are refused.
-pub fn retire<R: Files<File = File>>(
+pub fn retire_devices<R: Files<File = File>>(
     rt: &R,
     alloc: Global,
     file: &str,
     dev_euis: &[Eui],
     dry_run: DryRun,
-) -> Result<Counts, EditFault> {
+) -> Result<EditCounts, EditFault> {
     let rows = retirements(rt, alloc, dev_euis)?;
     match change_file(rt, alloc, file, rows.as_slice(), dry_run) {
         Ok(counts) => Ok(counts),
-        Err(NotDone::Rows(faulty)) => Err(retire_fault(alloc, dev_euis, faulty.as_slice())),
+        Err(NotDone::Rows(faulty)) => Err(not_retired(alloc, dev_euis, faulty.as_slice())),
         Err(NotDone::Other(fault)) => Err(fault),
     }
 }
@@ -137,30 +137,32 @@ fn retirements<R: Files<File = File>>(
 /// of the last decision, and then closes the old one, which is no store after that. A crash at any
 /// moment leaves the old store, or the new one, or both: the old one is closed only after the new
 /// one is durable.
-pub fn grow<R: Files<File = File>>(
+pub fn grow_store<R: Files<File = File>>(
     rt: &R,
     alloc: Global,
     old: &str,
     new: &str,
     slots: Slots,
     dry_run: DryRun,
-) -> Result<Counts, EditFault> {
+) -> Result<EditCounts, EditFault> {
     if dry_run.0 {
-        let store = read_store(rt, alloc, old)?;
+        let store = open_for_reading(rt, alloc, old)?;
         let table = larger_table(alloc, store.table(), slots)?;
         return Ok(counts_of(0, store.table(), &table));
     }
-    let store = open_store(rt, alloc, old)?;
+    let store = open_for_edit(rt, alloc, old)?;
     let table = larger_table(alloc, store.table(), slots)?;
     let counts = counts_of(0, store.table(), &table);
     let (disk, made) = create(rt, new, slots)?;
     match grow_into(alloc, store, table, disk) {
         Ok(_) => Ok(counts),
-        Err(NotGrown::NotMade {
-            old: _,
-            disk,
-            refusal,
-        }) => Err(remove_new(rt, made, disk, FileFault::Refused(refusal)).into()),
+        Err(
+            NotGrown::NotMade {
+                old: _,
+                disk,
+                refusal,
+            },
+        ) => Err(remove_new(rt, made, disk, FileFault::Refused(refusal)).into()),
         Err(NotGrown::NotClosed { .. }) => Err(EditFault::NotClosed),
     }
 }
@@ -195,7 +197,7 @@ fn change_by_list<R: Files<File = File>>(
     list: &DeviceList,
     file: &str,
     dry_run: DryRun,
-) -> Result<Counts, EditFault> {
+) -> Result<EditCounts, EditFault> {
     match change_file(rt, alloc, file, list.changes.as_slice(), dry_run) {
         Ok(counts) => Ok(counts),
         Err(NotDone::Rows(faulty)) => Err(rows_fault(alloc, csv, list, faulty.as_slice())),
@@ -210,13 +212,13 @@ fn change_file<R: Files<File = File>>(
     file: &str,
     rows: &[Change],
     dry_run: DryRun,
-) -> Result<Counts, NotDone> {
+) -> Result<EditCounts, NotDone> {
     if dry_run.0 {
         return try_changes(rt, alloc, file, rows);
     }
-    let store = open_store(rt, alloc, file)?;
-    let before = Waiting::of(store.table());
-    match with_changes(alloc, store, rows) {
+    let store = open_for_edit(rt, alloc, file)?;
+    let before = Ongoing::of(store.table());
+    match store_with_changes(alloc, store, rows) {
         Ok(store) => Ok(before.counts(rows.len(), store.table())),
         Err(NotChanged::Rows(_, refused)) => Err(refused.into()),
         Err(NotChanged::Store(_, refusal)) => Err(NotDone::Other(refusal.into())),
@@ -229,8 +231,8 @@ fn try_changes<R: Files<File = File>>(
     alloc: Global,
     file: &str,
     rows: &[Change],
-) -> Result<Counts, NotDone> {
-    let store = read_store(rt, alloc, file)?;
+) -> Result<EditCounts, NotDone> {
+    let store = open_for_reading(rt, alloc, file)?;
     let table = changed_table(alloc, store.table(), rows)?;
     Ok(counts_of(rows.len(), store.table(), &table))
 }
@@ -258,7 +260,7 @@ fn larger_table(alloc: Global, table: &Table, slots: Slots) -> Result<Table, Edi
 }
 
 // The store in a file, for reading alone.
-fn read_store<R: Files<File = File>>(
+fn open_for_reading<R: Files<File = File>>(
     rt: &R,
     alloc: Global,
     file: &str,
@@ -267,7 +269,7 @@ fn read_store<R: Files<File = File>>(
 }
 
 // The store in a file.
-fn open_store<R: Files<File = File>>(
+fn open_for_edit<R: Files<File = File>>(
     rt: &R,
     alloc: Global,
     file: &str,
@@ -280,24 +282,24 @@ fn open_store<R: Files<File = File>>(
 
 // What a table has that a change may end.
 #[derive(Clone, Copy)]
-struct Waiting {
+struct Ongoing {
     sessions: usize,
     items: usize,
 }
 
-impl Waiting {
+impl Ongoing {
     fn of(table: &Table) -> Self {
         let with_session = |device: &&Device| device.activation.current().is_some();
-        Waiting {
+        Ongoing {
             sessions: table.devices().iter().filter(with_session).count(),
             items: waiting_items(table),
         }
     }
 
     // What a command did whose store had this before, and has this table now.
-    fn counts(self, changed: usize, table: &Table) -> Counts {
-        let now = Waiting::of(table);
-        Counts {
+    fn counts(self, changed: usize, table: &Table) -> EditCounts {
+        let now = Ongoing::of(table);
+        EditCounts {
             changed,
             devices: table.devices().len(),
             slots: table.slots().get(),
@@ -307,8 +309,8 @@ impl Waiting {
     }
 }
 
-fn counts_of(changed: usize, before: &Table, after: &Table) -> Counts {
-    Waiting::of(before).counts(changed, after)
+fn counts_of(changed: usize, before: &Table, after: &Table) -> EditCounts {
+    Ongoing::of(before).counts(changed, after)
 }
 
 // The faulty lines of a list.
@@ -327,7 +329,7 @@ fn refused_list(alloc: Global, csv: &str, list: &DeviceList, refused: Refused) -
 }
 
 // The devices that can't be retired, a line each.
-fn retire_text(
+fn not_retired_text(
     alloc: Global,
     dev_euis: &[Eui],
     rows: &[FaultyRow],
@@ -346,8 +348,8 @@ fn retire_text(
     Ok(text)
 }
 
-fn retire_fault(alloc: Global, dev_euis: &[Eui], rows: &[FaultyRow]) -> EditFault {
-    match retire_text(alloc, dev_euis, rows) {
+fn not_retired(alloc: Global, dev_euis: &[Eui], rows: &[FaultyRow]) -> EditFault {
+    match not_retired_text(alloc, dev_euis, rows) {
         Ok(text) => EditFault::List(text),
         Err(_) => Refusal::OutOfMemory.into(),
     }

@@ -8,6 +8,9 @@ mod editing;
 mod fault;
 mod reading;
 
-pub use changes::{NotChanged, NotGrown, grow_into, with_changes};
-pub use editing::{Counts, DryRun, amend, export, grow, import, import_new, retire};
+pub use changes::{NotChanged, NotGrown, grow_into, store_with_changes};
+pub use editing::{
+    DryRun, EditCounts, amend_devices, export_devices, grow_store, import_as_new, import_devices,
+    retire_devices,
+};
 pub use fault::EditFault;

@@ -24,7 +24,7 @@ pub(crate) fn read_changes<R: Files<File = File>>(
     csv: &str,
     usage: ListUse,
 ) -> Result<DeviceList, EditFault> {
-    let bytes = match bytes_of(rt, alloc, csv) {
+    let bytes = match list_bytes(rt, alloc, csv) {
         Ok(bytes) => bytes,
         Err(error) => return Err(unreadable(alloc, csv, &error)),
     };
@@ -57,7 +57,7 @@ fn read_random<R: Files<File = File>>(rt: &R, bytes: &mut [u8]) -> io::Result<()
 }
 
 // The bytes of a file that isn't too long for a list.
-fn bytes_of<R: Files<File = File>>(rt: &R, alloc: Global, path: &str) -> io::Result<Vec<u8>> {
+fn list_bytes<R: Files<File = File>>(rt: &R, alloc: Global, path: &str) -> io::Result<Vec<u8>> {
     let mut file = File::open(rt, path)?;
     if file.metadata()?.len() > LONGEST {
         return Err(io::Error::from(ErrorKind::FileTooLarge));

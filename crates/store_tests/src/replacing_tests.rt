@@ -7,6 +7,9 @@ use store::{Store, establish_back};
 use test_stores::devices_under_test::{idle_device, new_table};
 use test_stores::stores_under_test::{LEN, blank, crashed};
 
+// How many devices a store has, and the number of its last decision; or why there is none.
+type Found = Result<(usize, u64), Refusal>;
+
 // The number of the last decision of the stores.
 const SEQ: u64 = 7;
 
@@ -37,8 +40,8 @@ fn replaced(
         Ok(table) => table,
         Err(refusal) => return Err((store.close(), refusal)),
     };
-    let is_alike =
-        table.net_id() == store.table().net_id() && table.slots() == store.table().slots();
+    let is_alike = table.net_id() == store.table().net_id()
+        && table.slots() == store.table().slots();
     if !is_alike {
         return Err((store.close(), Refusal::WrongSize));
     }
@@ -98,24 +101,27 @@ const CUTS_OF_SIX: &[(u64, [usize; 4])] = &[
     (6, [3, 3, 3, 3]),
 ];
 
-// Whether each of these is found.
-fn are_found(alloc: Global, before: u16, cuts: &[(u64, [usize; 4])]) -> bool {
+// What is wrongly found, if anything: after how many calls, in which image, and what.
+fn wrong(alloc: Global, before: u16, cuts: &[(u64, [usize; 4])]) -> Option<(u64, usize, Found)> {
     let positions = positions(alloc).unwrap_or(Image::Old);
     let images = [&Image::Old, &Image::New, &Image::Fill(0xA5), &positions];
     for (calls, counts) in cuts {
-        for (image, count) in images.iter().zip(counts) {
-            if cut(alloc, before, *calls, image) != Ok((*count, SEQ)) {
-                return false;
+        for (place, (image, count)) in images.iter().zip(counts).enumerate() {
+            let found = cut(alloc, before, *calls, image);
+            if found != Ok((*count, SEQ)) {
+                return Some((*calls, place, found));
             }
         }
     }
-    true
+    None
 }
 
 #[test]
 fn a_table_that_is_cut_is_the_old_one_or_the_new_one(rt: HostRuntime) {
-    assert!(rt; are_found(rt.alloc(), 1, CUTS_OF_FOUR));
-    assert!(rt; are_found(rt.alloc(), 2, CUTS_OF_SIX));
+    for (before, cuts) in [(1, CUTS_OF_FOUR), (2, CUTS_OF_SIX)] {
+        let found = wrong(rt.alloc(), before, cuts);
+        assert!(rt; found.is_none(), "{before}: {found:?}");
+    }
 }
 
 // What is found after a crash to this image, if a store is closed by this number of calls, and the
@@ -151,7 +157,8 @@ fn a_store_that_is_closed_is_whole_or_none(rt: HostRuntime) {
             } else {
                 Err(Refusal::NotFormatted)
             };
-            assert!(rt; cut_closing(alloc, *calls, image) == wanted, "{calls} calls");
+            let found = cut_closing(alloc, *calls, image);
+            assert!(rt; found == wanted, "{calls} calls: {found:?}");
         }
     }
 }

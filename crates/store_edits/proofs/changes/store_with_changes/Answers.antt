@@ -3,7 +3,7 @@ use Rattle.disk.specs.State.{IsPermitted}
 use Rattle.device_changes.specs.Table.{changed_table}
 use Rattle.store.specs.Image.{HoldsTable}
 use Rattle.store.specs.State.{store_state}
-use Rattle.store_edits.proofs.changes.with_changes.Goals as goal
+use Rattle.store_edits.proofs.changes.store_with_changes.Goals as goal
 
 pub returns-in-Err-replace-clause-images : goal.returns-in-Err-replace-clause-images
 returns-in-Err-replace-clause-images g c honest settled image permitted =
