@@ -3,9 +3,9 @@ use disk::{Image, MemDisk, Sim};
 use lw_types::Refusal;
 use sessions::Table;
 use std::alloc::Global;
-use store::{Store, establish_back};
+use store::{Store, establish_back, open};
 use test_stores::devices_under_test::{idle_device, new_table};
-use test_stores::stores_under_test::{LEN, blank, crashed};
+use test_stores::stores_under_test::{LEN, blank};
 
 // How many devices a store has, and the number of its last decision; or why there is none.
 type Found = Result<(usize, u64), Refusal>;
@@ -66,7 +66,14 @@ fn cut(alloc: Global, before: u16, calls: u64, image: &Image) -> Result<(usize, 
         Err((_, refusal)) => return Err(refusal),
     };
     disk.arm(u64::MAX);
-    crashed(alloc, disk, image)
+    found_after(alloc, disk, image)
+}
+
+// What a crash to this image leaves.
+fn found_after(alloc: Global, mut disk: MemDisk, image: &Image) -> Found {
+    disk.crash(image);
+    let store = open(alloc, disk)?;
+    Ok((store.table().devices().len(), store.seq()))
 }
 
 // The image that has the low 8 bits of each position.
@@ -135,7 +142,7 @@ fn cut_closing(alloc: Global, calls: u64, image: &Image) -> Result<(usize, u64),
         Err((_, refusal)) => return Err(refusal),
     };
     disk.arm(u64::MAX);
-    crashed(alloc, disk, image)
+    found_after(alloc, disk, image)
 }
 
 // Whether the store is found after this number of calls, in the same images.
