@@ -17,7 +17,7 @@ from typing import Any
 
 from bozintar import wire, words
 from bozintar.counts import Counts, Metric
-from bozintar.lasting import LASTING, Link
+from bozintar.lasting import Link
 from bozintar.logs import Seldom, warn
 
 from .routes import STORES_HELP, Routes, Store
@@ -164,7 +164,9 @@ class Hub:
         try:
             async for content in link.of_one():
                 self.take(store, eui, content)
-            lasted = self.clock() - begun > LASTING
+            # as the store does if another bridge hands in the same gateway's copies; not at a
+            # restart of the store, which ends links of any age
+            lasted = self.clock() - begun > HOLD
             self.counts.add("closed_soon", not lasted and not link.is_ending)
         except (OSError, asyncio.TimeoutError, wire.NoMessage) as fault:
             why = str(fault) or "nothing answers"

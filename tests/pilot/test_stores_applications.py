@@ -17,7 +17,9 @@ from .played import FIRST, SECOND, up
 from .stores import Stores
 from .whole import Dashboard
 
-THIRD = "3132333435363738"
+THIRD, FOURTH = "3132333435363738", "4142434445464748"
+# how a link ends that the bridge breaks off, perhaps before it has read all
+ENDED = (None, b"reset")
 ITEM: dict[str, Any] = {"fPort": 7, "data": "AA=="}
 ROW = "{},0102030405060708,2B7E151628AED2A6ABF7158809CF4F3C,0,1\n"
 
@@ -32,6 +34,8 @@ class Applied:
         self.counts, self.claims = parts.file("applications.prom"), stores.replace("claims", "#\n")
         self.part: Process | None = None
         self.links: dict[str, End] = {}
+        # the devices of each store
+        self.devices: dict[str, set[str]] = {name: set() for name in stores.at}
 
     def start(self, *words: Any) -> Process:
         """Starts it; its links."""
@@ -63,6 +67,29 @@ class Applied:
         assert (kind, whose) == ("queue", device)
         self.links[name].tell(f"queued {device} {tag}")
 
+    def serve(self, texts: list[str]) -> list[tuple[str, str]]:
+        """Answers as stores do, until the bridge has printed these texts; which devices were
+        added, and to which stores."""
+        added: list[tuple[str, str]] = []
+
+        def serve_once() -> bool:
+            for name, link in self.links.items():
+                content = link.hears(0.02) or b"the end"
+                kind, device, *_ = (
+                    content[1:].decode().split(" ") if content[:1] == b"\3" else ("", "")
+                )
+                if kind == "queue":
+                    link.tell("refused 15" if device in self.devices[name] else "refused 7")
+                elif kind == "provision":
+                    added.append((name, device))
+                    self.devices[name].add(device)
+                    link.tell(f"provisioned {device} 7")
+            said = self.part.said() if self.part else ""
+            return all(text in said for text in texts)
+
+        await_that(texts[-1], serve_once)
+        return sorted(added)
+
     def hear_nothing(self, *names: str) -> None:
         """These stores are asked nothing."""
         for name in names:
@@ -79,32 +106,37 @@ def applied(parts: Parts, stores: Stores) -> Iterator[Applied]:
 
 def test_devices_are_claimed(applied: Applied) -> None:
     """A device is added to the store that it is claimed for. One that isn't claimed is added when
-    it is, and a store that is slow keeps no other one waiting."""
+    it is. One that another store has isn't added, whatever the claim: no device can move."""
     applied.claim(f"{FIRST} d01", f"{SECOND} d00", f"{THIRD} d09")
-    rows = "".join(ROW.format(device) for device in (FIRST, SECOND, THIRD, "4142434445464748"))
+    rows = "".join(ROW.format(device) for device in (FIRST, SECOND, THIRD, FOURTH))
     file = applied.parts.file("devices.csv", rows)
     part = applied.start("--devices", file, "--claims", applied.claims)
-    assert applied.links["d00"].asked()[:2] == ["provision", SECOND]
-    assert applied.links["d01"].asked()[:2] == ["provision", FIRST]
-    applied.links["d00"].tell(f"provisioned {SECOND} 5")
-    for text in (
-        f"line 2: {SECOND} is provisioned, in slot 5 of d00",
-        f"{file}, d00: 1 devices are there, 0 aren't",
+    texts = [
+        f"line 2: {SECOND} is provisioned, in slot 7 of d00",
         f"line 3: {THIRD} is claimed for d09, which is no store",
-        "line 4: 4142434445464748 is claimed for no store",
+        f"line 4: {FOURTH} is claimed for no store",
         f"{file}: 2 lines aren't asked for",
-    ):
-        await_that(text, lambda: part.has_said(text))
-    assert "d01: 1 devices" not in part.said()
-    applied.links["d01"].tell(f"provisioned {FIRST} 0")
+        f"{file}, d00: 1 devices are there, 0 aren't",
+        f"{file}, d01: 1 devices are there, 0 aren't",
+    ]
+    assert applied.serve(texts) == [("d00", SECOND), ("d01", FIRST)]
     applied.claim(f"{FIRST} d01", f"{SECOND} d00", f"{THIRD} d00")
-    for device in (SECOND, THIRD):
-        assert applied.links["d00"].asked()[:2] == ["provision", device]
-        applied.links["d00"].tell("refused 16")
-        assert applied.links["d00"].asked()[:2] == ["queue", device]
-        applied.links["d00"].tell("refused 15")
-    await_that("both", lambda: part.has_said(f"{file}, d00: 2 devices are there, 0 aren't; 2 were"))
-    assert applied.links["d01"].asked()[:2] == ["provision", FIRST], "it is asked for again, too"
+    text = f"{file}, d00: 2 devices are there, 0 aren't; 1 were there before"
+    assert applied.serve([text]) == [("d00", THIRD)]
+    applied.claim(f"{FIRST} d00", f"{SECOND} d00", f"{THIRD} d00")
+    await_that("it is read", lambda: part.said().count("claims is read") == 2)
+    text = f"line 1: {FIRST} isn't added to d00: d01 has it, and no device can move"
+    assert applied.serve([text]) == []
+
+
+def test_devices_without_a_store(applied: Applied, stores: Stores) -> None:
+    """A store that is away keeps no device of another store waiting."""
+    stores.write(d01="-")
+    applied.claim(f"{FIRST} d01", f"{SECOND} d00")
+    file = applied.parts.file("devices.csv", ROW.format(FIRST) + ROW.format(SECOND))
+    applied.start("--devices", file, "--claims", applied.claims)
+    text = f"{file}, d00: 1 devices are there, 0 aren't"
+    assert applied.serve([text]) == [("d00", SECOND)]
 
 
 def test_commands_and_events(applied: Applied) -> None:
@@ -198,11 +230,11 @@ def test_store_that_moves(applied: Applied, stores: Stores) -> None:
     applied.start("--claims", applied.claims)
     with Network() as network:
         stores.write(d01=network.at)
-        assert applied.links["d01"].hears() is None
+        assert applied.links["d01"].hears() in ENDED
         link = network.link()
         assert link.greeting == bytes([2, APPLICATION])
         stores.write(d01="-")
-        assert link.hears() is None
+        assert link.hears() in ENDED
         for text in ("1", "2"):
             applied.dashboard.down(FIRST, **ITEM, id=text)
         applied.hear_nothing("d00")

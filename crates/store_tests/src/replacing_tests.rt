@@ -5,7 +5,7 @@ use sessions::Table;
 use std::alloc::Global;
 use store::{Store, establish_back, open};
 use test_stores::devices_under_test::{idle_device, new_table};
-use test_stores::stores_under_test::{LEN, blank};
+use test_stores::stores_under_test::{LEN, blank, new_store};
 
 // How many devices a store has, and the number of its last decision; or why there is none.
 type Found = Result<(usize, u64), Refusal>;
@@ -22,7 +22,7 @@ fn table_of(alloc: Global, count: u16) -> Result<Table, Refusal> {
     Ok(table)
 }
 
-// A store of one device. Its live area is the second one, and the first one is closed.
+// A store of one device. Its live area is the second one, and the first one is open, too.
 fn store_of_one(alloc: Global) -> Result<Store<MemDisk>, Refusal> {
     match establish_back(alloc, blank(alloc, LEN)?, table_of(alloc, 1)?, SEQ) {
         Ok(store) => Ok(store),
@@ -48,17 +48,19 @@ fn replaced(
     store.replace(alloc, table)
 }
 
-// The number of devices and the number that are found after a crash to this image, if the table of
-// a store with this number of devices is replaced by one of one device more, by this number of
-// calls, and the next one fails.
-fn cut(alloc: Global, before: u16, calls: u64, image: &Image) -> Result<(usize, u64), Refusal> {
-    let mut store = store_of_one(alloc)?;
-    if before == 2 {
-        store = match replaced(alloc, store, 2) {
-            Ok(store) => store,
-            Err((_, refusal)) => return Err(refusal),
-        };
+// A store with this number of devices: none, or one.
+fn store_with(alloc: Global, count: u16) -> Result<Store<MemDisk>, Refusal> {
+    if count == 0 {
+        new_store(alloc, 8)
+    } else {
+        store_of_one(alloc)
     }
+}
+
+// What is found after a crash to this image, if the table of a store with this number of devices is
+// replaced by one of one device more, by this number of calls, and the next one fails.
+fn cut(alloc: Global, before: u16, calls: u64, image: &Image) -> Found {
+    let mut store = store_with(alloc, before)?;
     store.arm(calls.saturating_add(1));
     let mut disk = match replaced(alloc, store, before.saturating_add(1)) {
         Ok(store) => store.close(),
@@ -86,36 +88,37 @@ fn positions(alloc: Global) -> Result<Image, Refusal> {
 }
 
 // How many devices are found after this number of calls, in the old bytes, in the new ones, in open
-// gates and in the low 8 bits of the positions. The other area is closed: the new table is written,
-// synced, its gate is opened, and that is synced.
+// gates and in the low 8 bits of the positions. The other area of a new store is closed: the new
+// table is written, synced, its gate is opened, and that is synced.
 const CUTS_OF_FOUR: &[(u64, [usize; 4])] = &[
-    (0, [1, 1, 1, 1]),
-    (1, [1, 1, 1, 1]),
+    (0, [0, 0, 0, 0]),
+    (1, [0, 0, 0, 0]),
     // A failed write leaves the old byte, and the gate of open bytes is open.
-    (2, [1, 1, 2, 1]),
-    (3, [1, 2, 2, 1]),
-    (4, [2, 2, 2, 2]),
+    (2, [0, 0, 1, 0]),
+    (3, [0, 1, 1, 0]),
+    (4, [1, 1, 1, 1]),
 ];
 
 // The same if the other area is open: it is closed, and that is synced, first.
 const CUTS_OF_SIX: &[(u64, [usize; 4])] = &[
-    (0, [2, 2, 2, 2]),
-    (1, [2, 2, 2, 2]),
-    (2, [2, 2, 2, 2]),
-    (3, [2, 2, 2, 2]),
-    (4, [2, 2, 3, 2]),
-    (5, [2, 3, 3, 2]),
-    (6, [3, 3, 3, 3]),
+    (0, [1, 1, 1, 1]),
+    (1, [1, 1, 1, 1]),
+    (2, [1, 1, 1, 1]),
+    (3, [1, 1, 1, 1]),
+    (4, [1, 1, 2, 1]),
+    (5, [1, 2, 2, 1]),
+    (6, [2, 2, 2, 2]),
 ];
 
 // What is wrongly found, if anything: after how many calls, in which image, and what.
 fn wrong(alloc: Global, before: u16, cuts: &[(u64, [usize; 4])]) -> Option<(u64, usize, Found)> {
+    let seq = if before == 0 { 0 } else { SEQ };
     let positions = positions(alloc).unwrap_or(Image::Old);
     let images = [&Image::Old, &Image::New, &Image::Fill(0xA5), &positions];
     for (calls, counts) in cuts {
         for (place, (image, count)) in images.iter().zip(counts).enumerate() {
             let found = cut(alloc, before, *calls, image);
-            if found != Ok((*count, SEQ)) {
+            if found != Ok((*count, seq)) {
                 return Some((*calls, place, found));
             }
         }
@@ -125,7 +128,7 @@ fn wrong(alloc: Global, before: u16, cuts: &[(u64, [usize; 4])]) -> Option<(u64,
 
 #[test]
 fn a_table_that_is_cut_is_the_old_one_or_the_new_one(rt: HostRuntime) {
-    for (before, cuts) in [(1, CUTS_OF_FOUR), (2, CUTS_OF_SIX)] {
+    for (before, cuts) in [(0, CUTS_OF_FOUR), (1, CUTS_OF_SIX)] {
         let found = wrong(rt.alloc(), before, cuts);
         assert!(rt; found.is_none(), "{before}: {found:?}");
     }
