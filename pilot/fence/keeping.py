@@ -71,10 +71,10 @@ class Keeper:
         except Lost as why:
             warn(f"{name}: {why}: the server is killed")
             return OTHER_LIFE
-        except Gone as why:
+        except (Gone, NoLease) as why:
             warn(f"{name}: the cluster is away: {why}")
             return AGAIN
-        except Failed as why:
+        except (Failed, OSError) as why:
             warn(f"{name}: {why}")
             return FAULT
 
@@ -94,19 +94,25 @@ class Keeper:
 
     async def free(self) -> Seen:
         """What the cluster has of the store, once nobody serves it."""
-        last = time.monotonic() + self.given.wait
+        begun, has_said = time.monotonic(), False
         while True:
             there = await self.asks(seen, self.etcd, self.given.name)
-            if not there.serving:
+            if not there.serving or self.told.is_set():
                 return there
-            if time.monotonic() > last or self.told.is_set():
-                at = f"at {there.serving.address}, " if there.serving.address else ""
-                raise Refused(f"it is served {at}by {there.serving.host}")
+            at = f"at {there.serving.address}, " if there.serving.address else ""
+            text = f"it is served {at}by {there.serving.host}"
+            if time.monotonic() >= begun + self.given.wait:
+                raise Refused(text)
+            if not has_said:
+                log(f"{self.given.name}: {text}; waits for the end of that lease")
+            has_said = True
             await self.unless_told(LOOK)
 
     async def live(self) -> int | None:
         """One life of the store; the exit status, or None if a signal has ended the server."""
         before = await self.free()
+        if self.told.is_set():
+            return 0
         found = await asyncio.to_thread(self.found)
         word = Word(self.given.adopt, self.given.replace)
         if why := judge(before.net_id, before.fence, found, word):
@@ -166,25 +172,42 @@ class Life:
         """Serves until the server ends, or the keeper is to end; how."""
         self.watch()
         self.check_time()
-        address = await self.server.start()
-        assert self.server.ended
-        if not address:
-            return self.status_of(await self.server.ended)
-        shown = self.given.address or address
-        await self.keeper.asks(self.hold.show, shown)
-        fence = self.hold.fence
-        assert fence
-        log(f"{self.given.name} is served at {shown}, life {fence.life}, from {fence.number}")
         turns = asyncio.ensure_future(self.turns())
         told = asyncio.ensure_future(self.keeper.told.wait())
         try:
-            await asyncio.wait({self.server.ended, turns, told}, return_when="FIRST_COMPLETED")
+            if not await self.start(turns):
+                return self.status_of(await self.ended)
+            await asyncio.wait({self.ended, turns, told}, return_when="FIRST_COMPLETED")
             if turns.done():
                 turns.result()
             return await self.end(turns)
         finally:
             told.cancel()
             self.is_over.set()
+            await asyncio.wait({turns})
+
+    async def start(self, turns: asyncio.Task) -> bool:
+        """Starts the server, which may take longer than the lease lasts, and shows bridges where it
+        is; whether it serves."""
+        starting = asyncio.ensure_future(self.server.start())
+        await asyncio.wait({starting, turns}, return_when="FIRST_COMPLETED")
+        if turns.done():
+            starting.cancel()
+            turns.result()
+        if not (address := await starting):
+            return False
+        shown = self.given.address or address
+        await self.keeper.asks(self.hold.show, shown)
+        fence = self.hold.fence
+        assert fence
+        log(f"{self.given.name} is served at {shown}, life {fence.life}, from {fence.number}")
+        return True
+
+    @property
+    def ended(self) -> asyncio.Task[int]:
+        """The server's end, once it was started."""
+        assert self.server.ended
+        return self.server.ended
 
     def check_time(self) -> None:
         """A keeper that was stopped for long since it took the store doesn't begin any more."""
@@ -240,12 +263,12 @@ class Life:
 
     async def end(self, turns: asyncio.Task) -> int | None:
         """Ends the server well, if the keeper is to end, and writes what the file then is."""
-        assert self.server.ended
         if self.keeper.told.is_set():
-            asyncio.ensure_future(self.keeper.lnsd.run("stop"))
-            await asyncio.wait({self.server.ended}, timeout=STOPPING)
+            stopping = asyncio.ensure_future(self.keeper.lnsd.run("stop"))
+            await asyncio.wait({self.ended}, timeout=STOPPING)
             self.server.kill()
-        status = await self.server.ended
+            await asyncio.wait({stopping})
+        status = await self.ended
         self.is_over.set()
         await turns
         if status == 0:

@@ -83,6 +83,8 @@ class Server:
     def __init__(self, lnsd: Lnsd, listen: str):
         self.lnsd, self.listen = lnsd, listen
         self.process: asyncio.subprocess.Process | None = None
+        # it is to end, also if it hasn't begun yet
+        self.is_killed = False
         self.ended: asyncio.Task[int] | None = None
 
     async def start(self) -> str:
@@ -97,6 +99,8 @@ class Server:
             stdout=asyncio.subprocess.PIPE,
         )
         self.ended = asyncio.ensure_future(self.to_the_end(self.process))
+        if self.is_killed:
+            self.kill()
         out = self.process.stdout
         said = (await out.readline()).decode().split() if out else []
         return said[1] if said[:1] == ["listening"] else ""
@@ -110,6 +114,7 @@ class Server:
         return status
 
     def kill(self) -> None:
-        """Ends it at once, if it runs."""
+        """Ends it at once, or as soon as it has begun."""
+        self.is_killed = True
         if self.process and self.process.returncode is None:
             self.process.kill()

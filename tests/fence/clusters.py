@@ -16,7 +16,7 @@ from fence.etcd import Etcd, Gone, Puts
 from fence.records import FENCE, SERVING, STORE, Fence, Serving, known
 
 PILOT = Path(__file__).resolve().parents[2] / "pilot"
-SLOTS, NET_ID = 64, "000007"
+SLOTS, NET_ID = 1000, "000007"
 # how long a keeper may take that waits for the end of another one's lease, and more
 LONG = 60.0
 # the seconds of a lease in trials, which is as short as keepers take it; but a machine that does
@@ -141,7 +141,7 @@ class Kept:
     def serves(self, file: str, *more: Any, **how: Any) -> Process:
         """Starts a keeper, which serves the file."""
         keeper = self.keeper(file, *more, **how)
-        await_that("it is served", lambda: keeper.has_said("is served at"), LONG)
+        await_that("it is served", lambda: keeper.has_said(f"{self.name} is served at"), LONG)
         return keeper
 
     def refused(self, file: str, *more: Any, **how: Any) -> str:

@@ -1,6 +1,7 @@
 """Keepers of stores, with etcd: which file is refused, with which reason, and what goes on when a
 server, a keeper or members of the cluster are killed or hang."""
 
+import os
 import signal
 import socket
 import subprocess
@@ -15,6 +16,11 @@ from bozintar.words import Address
 
 from .clusters import LEASE, LONG, Cluster, Kept, answers, await_said, status_of
 
+# a program that is lnsd, and takes a while to run
+SLOW = """#!/bin/sh
+test "$1" != run || sleep {1}
+exec {0} "$@"
+"""
 # a clean end, and a fault that may pass
 WELL, AGAIN = 0, 1
 
@@ -313,6 +319,33 @@ def test_missing_file(kept: Kept) -> None:
         keeper = kept.keeper(kept.file(name), "--adopt")
         assert keeper.ended(LONG) == 5
         assert f"{kept.file(name)} can't be read: " in keeper.said()
+
+
+def test_slow_start(kept: Kept) -> None:
+    """A server that takes longer to start than its lease lasts is served all the same."""
+    slow = kept.processes.file("slow", SLOW.format(kept.program, LEASE + 3))
+    os.chmod(slow, 0o755)
+    keeper = kept.serves(kept.format(), "--adopt", "--lnsd", slow)
+    assert kept.fence().life == 1
+    kept.stop(keeper)
+
+
+def test_no_program(kept: Kept) -> None:
+    """Without the program lnsd, or with one that isn't lnsd, a keeper ends for its operator."""
+    file = kept.format()
+    for program in ("/no/such/lnsd", "true"):
+        keeper = kept.keeper(file, "--adopt", "--lnsd", program)
+        assert keeper.ended(LONG) == 5, keeper.said()
+    kept.stop(kept.serves(file, "--adopt"))
+
+
+def test_ends_while_it_waits(served: tuple[Kept, str, Process]) -> None:
+    """A keeper that waits for the end of another lease ends well by a signal."""
+    kept, file, keeper = served
+    waiting = kept.keeper(file, "--wait", "60")
+    await_said(waiting, "waits for the end of that lease")
+    assert waiting.end(signal.SIGTERM, LONG) == WELL
+    kept.stop(keeper)
 
 
 def test_address_in_use(kept: Kept) -> None:

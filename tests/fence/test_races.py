@@ -11,12 +11,12 @@ from .clusters import LONG, Kept
 MACHINES, TURNS = 4, 6
 
 
-def winner(keepers: list[Process]) -> int:
+def winner(kept: Kept, keepers: list[Process]) -> int:
     """Which keeper serves, once all others have ended."""
     await_that("one is left", lambda: sum(one.poll() is None for one in keepers) <= 1, LONG)
     left = [at for at, one in enumerate(keepers) if one.poll() is None]
     assert len(left) == 1, [one.said() for one in keepers]
-    await_that("it serves", lambda: keepers[left[0]].has_said("is served at"), LONG)
+    await_that("it serves", lambda: keepers[left[0]].has_said(f"{kept.name} is served at"), LONG)
     assert all(one.poll() == 3 for at, one in enumerate(keepers) if at != left[0])
     return left[0]
 
@@ -34,7 +34,7 @@ def test_races(kept: Kept) -> None:
                 if at != last:
                     kept.copy(files[last], f"copy{at}")
         keepers = [kept.keeper(file, machine=f"m{at}") for at, file in enumerate(files)]
-        won = winner(keepers)
+        won = winner(kept, keepers)
         assert is_shared or won == last
         reasons = [one.said() for at, one in enumerate(keepers) if at != won]
         due = ("it is served", "another keeper was quicker", "another copy")

@@ -99,7 +99,7 @@ def test_certificates(
         assert "the cluster is away" in keeper.said()
     own = [f"--{kind}={authority}/keeper-one.{end}" for kind, end in PAIR]
     keeper = processes.process("keep", *words, *ca, *own).start()
-    await_that("it is served", lambda: keeper.has_said("is served at"), LONG)
+    await_that("it is served", lambda: keeper.has_said(f"{name} is served at"), LONG)
     assert keeper.end(seconds=LONG) == 0
 
 
