@@ -1,4 +1,4 @@
-"""Lists of devices, as docs/DEVICES.md has them: values between commas, semicolons or tabs (CSV)."""
+"""Lists of devices, by docs/DEVICES.md: values between commas, semicolons or tabs (CSV)."""
 
 import csv
 import re
@@ -237,8 +237,8 @@ def by_column(columns: Sequence[str], values: Sequence[str]) -> Values:
 
 
 def in_lines(lines: Iterable[str], needed: Sequence[str] = NEEDED) -> Devices:
-    """All devices of these lines. The first one may name the columns, in any order. Each line is read
-    by itself, so that a quote that isn't closed spoils no other line."""
+    """All devices of these lines. The first one may name the columns, in any order. Each line is
+    read by itself, so that a quote that isn't closed spoils no other line."""
     found, is_first = Devices(), True
     for place, line in bare_lines(lines):
         try:

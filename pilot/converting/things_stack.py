@@ -1,8 +1,8 @@
-"""Devices of The Things Stack, version 3: JSON of `ttn-lw-cli end-devices` and of its HTTP API, with
-the fields of its end device, and the CSV file by which it imports end devices ("JSON File Reference"
-and "CSV File Reference" of its documentation, both of "Adding Devices in Bulk"; the field masks of
-"End Device APIs"). A device's fields may come in several objects, since its servers keep some
-each."""
+"""Devices of The Things Stack, version 3: JSON of `ttn-lw-cli end-devices` and of its HTTP API,
+with the fields of its end device, and the CSV file by which it imports end devices ("JSON File
+Reference" and "CSV File Reference" of its documentation, both of "Adding Devices in Bulk"; the
+field masks of "End Device APIs"). A device's fields may come in several objects, since its servers
+keep some each."""
 
 import re
 from collections.abc import Iterable

@@ -1,5 +1,5 @@
-"""Lists of devices: what is read of each, by docs/DEVICES.md, and what the programs that read one do
-with it."""
+"""Lists of devices: what is read of each, by docs/DEVICES.md, and what the programs that read one
+do with it."""
 
 import signal
 import sqlite3

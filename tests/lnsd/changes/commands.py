@@ -1,5 +1,5 @@
-"""The commands on a stopped store. Each is killed again and again, and then begun anew, as an operator
-would do."""
+"""The commands on a stopped store. Each is killed again and again, and then begun anew, as an
+operator would do."""
 
 import os
 import random
