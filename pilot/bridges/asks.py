@@ -9,6 +9,8 @@ from collections.abc import Awaitable, Callable
 from bozintar.local import listener
 from bozintar.logs import log
 
+from .application_events import refusal
+
 # a request of docs/FORMATS.md, and which of its words its answer repeats
 REQUESTS = {"provision": ("provisioned", 1), "queue": ("queued", 2), "mac": ("macqueued", 2)}
 LINE = re.compile(r"[0-9A-Za-z -]{1,640}")
@@ -26,6 +28,16 @@ def due_of(line: str) -> str | None:
         return None
     answer, count = REQUESTS[kind]
     return " ".join([answer, *words[:count]]) if len(words) >= count else None
+
+
+def probe_of(device: str) -> str:
+    """A request that is refused for its port if the application has this device."""
+    return f"queue {device} 0 0 u -"
+
+
+def is_there(answer: str | None) -> bool:
+    """Whether the answer to a probe says that the application has the device."""
+    return answer is not None and refusal(answer)[0] == "BAD_PORT"
 
 
 class Asks:
