@@ -129,7 +129,7 @@ async def after_a_kill(one: Node, two: Node) -> None:
         two.kill()
         client.publish(TOPIC, b"third")
         await until("the first node has it again", lambda: one.came == ["third"])
-        assert not client.waiting
+        await until("nothing waits", lambda: not client.waiting)
 
 
 def test_after_a_kill(parts: Parts) -> None:
