@@ -4,6 +4,7 @@ transaction a second; the event loop reads by a connection of its own."""
 
 import asyncio
 import sqlite3
+import threading
 import time
 from typing import Any
 
@@ -57,6 +58,8 @@ class History:
         self.reading = sqlite3.connect(file)
         self.waiting: list[Row] = []
         self.came = asyncio.Event()
+        # the program may end while the thread writes
+        self.one, self.is_closed = threading.Lock(), False
         # why the last transaction failed, for example a full disk
         self.fault = ""
 
@@ -77,6 +80,12 @@ class History:
 
     def write_waiting(self) -> None:
         """Writes what waits. If that fails, it goes on waiting, the newest rows at most."""
+        with self.one:
+            if not self.is_closed:
+                self.write_now()
+
+    def write_now(self) -> None:
+        """The same, by one thread at a time."""
         rows, self.waiting = self.waiting, []
         try:
             self.write(rows)
@@ -104,8 +113,10 @@ class History:
     def close(self) -> None:
         """Writes the rest, and closes the file."""
         self.write_waiting()
-        self.writing.close()
-        self.reading.close()
+        with self.one:
+            self.is_closed = True
+            self.writing.close()
+            self.reading.close()
 
 
 def old(now: float) -> list[Row]:
