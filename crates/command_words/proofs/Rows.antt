@@ -1,21 +1,30 @@
 -- From what clap's getters answer to the rows of a command.
-use Rattle.std.proofs.Common.{◌≡◌, ◌∙◌, ◌+◌, ◌*◌, ◌<◌, ◌≤◌, ◌^◌, ℕ, List, Option, Some, None, Result, Ok, Err, Box, sym, ap, ap₂, refl, subst, arith, codes, slice_index, option_map}
+use Rattle.std.proofs.Common.{◌≡◌, ◌∙◌, ◌+◌, ◌*◌, ◌<◌, ◌≤◌, ◌^◌, ℕ, List, Option, Some, None, Result, Ok, Err, Box, sym, ap, ap₂, refl, subst, arith, zero, suc, [], ◌∷◌, drop, get_or, length, ◌&&◌, codes, map, slice_index, option_map, Bool, true, false, ◌==◌, ◌||◌}
+use Rattle.std.specs.Prelude.{MatchOption, is_none}
+use Rattle.std.specs.Bool.{MatchBool}
+use denote.Ref.{Bor}
+use Rattle.std.specs.List.{AllByRecursion}
+use Rattle.std.proofs.lemmas.Bool.{true≢false}
 use Rattle.std.proofs.lemmas.Option.{none-some}
 use Rattle.std.specs.Option.{unwrap_or}
 use Rattle.std.specs.Str.Parse.{IsNumeral, ParsesUnsigned, digits_value, without_leading_plus}
-use Rattle.clap.specs.Words.{ReadsOne, Row, Text, first_of, first_value, one_text, rows_of}
+use Rattle.clap.specs.Words.{ReadsOne, Row, Text, all_of, first_of, first_value, matched_of, one_text, raw_values, rows_of}
 use Rattle.clap.specs.Words.{subcommand_name_of, subcommand_rows, subcommand_rows_of}
 use Rattle.clap.specs.declared.parser.matches.ArgMatches.{ArgMatches}
 use Rattle.clap.specs.declared.parser.matches.Found.{Found}
 use Rattle.clap.specs.declared.parser.matches.SubCommand.{SubCommand}
 use Rattle.clap.specs.declared.parser.matches.ArgMatches.TheViews.{out-ArgMatches, out-SubCommand}
 use Rattle.std.specs.Box.{box_value}
-use Rattle.clap.proofs.WalkLemmas.{first_value-rows, one_text-rows}
-use Rattle.command_words.specs.Asked.{HasLinkOptions, HasNoMode, HasOptions, IsInRange, IsNumberOf}
-use Rattle.command_words.specs.Asked.{command_word, mode_file}
+use Rattle.clap.proofs.WalkLemmas.{first_value-rows, one_text-rows, raw_values-rows}
+use Rattle.command_words.specs.Asked.{AreSlots, AsksForNone, HasEditOptions, HasLinkOptions, HasNewStore, HasNoMode, HasNoNewStore, HasOptions, IsAsked}
+use Rattle.command_words.specs.Asked.{IsEditInRange, IsEui, IsFlagOf, IsInRange, IsModeOf, IsNumberOf}
+use Rattle.command_words.specs.Asked.{command_word, edit_word, mode_file}
+use Rattle.command_words.specs.declared.mode.Edit.{Edit}
+use Rattle.command_words.specs.declared.mode.Edit.TheVariants as edit
 use Rattle.command_words.specs.declared.mode.Mode.{Mode}
 use Rattle.command_words.specs.declared.mode.Mode.TheVariants as mode
-use Rattle.lw_types.specs.Hex.{net_id_text}
+use Rattle.lw_types.specs.Hex.{eui_text}
+use Rattle.lw_types.specs.declared.identifiers.Eui.{Eui}
 
 pub same : {A : Type 0} (x y : A) → Some x ≡ Some y → x ≡ y
 same x y e = ap (λ o. unwrap_or o x) e
@@ -60,111 +69,198 @@ number_met E G parses f id r n none value is = go (one_text f id) refl
 pub text_missed : (f : Found) (id : Text) → None ≡ first_value f id → first_of id (rows_of f) ≡ None
 text_missed f id e = sym (first_value-rows f id) ∙ sym e
 
--- a command asks for no mode where none of its word has its file and its options
-pub no_mode : (asked : Option (Text × List Row)) (name : Text) (rows : List Row) → asked ≡ Some (name, rows)
-    → ((m : Mode) → IsInRange m → name ≡ command_word m → first_of (codes "file") rows ≡ Some (mode_file m) → HasOptions rows m → ⊥)
-    → HasNoMode asked
-no_mode asked name rows e never m fits h =
-    let both : (name, rows) ≡ (command_word m, h.0) = same _ _ (sym e ∙ h.1) in
-    let are : h.0 ≡ rows = sym (ap (λ p. p.1) both) in
-    never m fits (ap (λ p. p.0) both) (ap (first_of (codes "file")) (sym are) ∙ h.2) (subst (λ rs. HasOptions rs m) are h.3)
+-- a command that was met asks for the mode of its word and rows
+pub mode_met : (asked : Option (Text × List Row)) (word : Text) (rows : List Row) (r : Option Mode) → asked ≡ Some (word, rows)
+    → MatchOption r (AsksForNone word rows) (IsAsked word rows) → MatchOption r (HasNoMode asked) (IsModeOf asked)
+mode_met asked word rows (Some m) e is = (word, rows, e, is)
+mode_met asked word rows None e never = λ m fits h.
+    let both : (word, rows) ≡ (h.0, h.1) = same _ _ (sym e ∙ h.2) in
+    never m fits (subst (λ (p : Text × List Row). IsAsked p.0 p.1 m) (sym both) h.3)
 
-pub no_file : (asked : Option (Text × List Row)) (name : Text) (rows : List Row) → asked ≡ Some (name, rows)
-    → first_of (codes "file") rows ≡ None → HasNoMode asked
-no_file asked name rows e none =
-    no_mode asked name rows e (λ m _ _ file _. none-some (mode_file m) (sym none ∙ file))
+-- a command asks for no mode
+pub missed : (word : Text) (rows : List Row) (r : Option Mode) → r ≡ None → AsksForNone word rows
+    → MatchOption r (AsksForNone word rows) (IsAsked word rows)
+missed word rows None e none = none
+missed word rows (Some m) e none = absurd (none-some m (sym e))
+
+-- the same of a word that is known
+pub word_met : (name word : Text) (rows : List Row) (r : Option Mode) → name ≡ word
+    → MatchOption r (AsksForNone word rows) (IsAsked word rows) → MatchOption r (AsksForNone name rows) (IsAsked name rows)
+word_met name word rows r is = subst (λ w. MatchOption r (AsksForNone w rows) (IsAsked w rows)) (sym is)
+
+-- a command without a file
+pub no_file : (word : Text) (rows : List Row) → first_of (codes "file") rows ≡ None → AsksForNone word rows
+no_file word rows none m fits h = none-some (mode_file m) (sym none ∙ h.1)
 
 -- a number that differs between the words of commands
-abbrev key : Text → ℕ
+abbrev pub key : Text → ℕ
 key word = 1000 * slice_index word 0 + slice_index word 2
 
 apart : (a b : Text) → ¬ (key a ≡ key b) → a ≡ b → ⊥
 apart a b differ e = differ (ap key e)
 
--- a `format` without a NetID or a number of slots
-pub no_format : (asked : Option (Text × List Row)) (rows : List Row) → asked ≡ Some (codes "format", rows)
-    → ((n s : ℕ) → n < 64 → 1 ≤ s → s ≤ 4096 → first_of (codes "netid") rows ≡ Some (net_id_text n) → IsNumberOf (codes "slots") rows s → ⊥)
-    → HasNoMode asked
-no_format asked rows e never = no_mode asked (codes "format") rows e go
+-- the numbers of the commands for a store that isn't served
+abbrev pub is_edit_key : ℕ → Bool
+is_edit_key n =
+    (n == key (codes "export")) || ((n == key (codes "import")) || ((n == key (codes "amend"))
+    || ((n == key (codes "retire")) || (n == key (codes "grow")))))
+
+edit_keys : (e : Edit) → is_edit_key (key (edit_word e)) ≡ true
+edit_keys (edit.Export file keys) = refl
+edit_keys (edit.Import csv file dry_run) = refl
+edit_keys (edit.ImportAsNew csv file net_id slots dry_run) = refl
+edit_keys (edit.Amend file csv dry_run) = refl
+edit_keys (edit.Retire file dev_euis dry_run) = refl
+edit_keys (edit.Grow file new_file slots dry_run) = refl
+
+not_edit : (word : Text) (e : Edit) → is_edit_key (key word) ≡ false → word ≡ edit_word e → ⊥
+not_edit word e not_key is = true≢false (sym (edit_keys e) ∙ (ap (λ w. is_edit_key (key w)) (sym is) ∙ not_key))
+
+-- a command for a store that isn't served asks for no mode if it asks for none of these
+pub no_edit : (word : Text) (rows : List Row) → is_edit_key (key word) ≡ true
+    → ((e : Edit) → IsEditInRange e → word ≡ edit_word e → HasEditOptions rows e → ⊥)
+    → AsksForNone word rows
+no_edit word rows is_key never m fits h = go m fits h.0 h.2
   where
-    go : (m : Mode) → IsInRange m → codes "format" ≡ command_word m → first_of (codes "file") rows ≡ Some (mode_file m) → HasOptions rows m → ⊥
-    go (mode.Format file net_id slots) fits is at h = never net_id slots fits.0 fits.1 fits.2 h.0 h.1
-    go (mode.List file) fits is at h = apart (codes "format") (codes "list") (λ b. omega (arith, b)) is
-    go (mode.Serve file listen links) fits is at h = apart (codes "format") (codes "serve") (λ b. omega (arith, b)) is
-    go (mode.Run file listen links) fits is at h = apart (codes "format") (codes "run") (λ b. omega (arith, b)) is
-    go (mode.Stop file) fits is at h = apart (codes "format") (codes "stop") (λ b. omega (arith, b)) is
-    go (mode.Devices file) fits is at h = apart (codes "format") (codes "devices") (λ b. omega (arith, b)) is
-    go (mode.Watch file) fits is at h = apart (codes "format") (codes "watch") (λ b. omega (arith, b)) is
-    go (mode.Status file wait) fits is at h = apart (codes "format") (codes "status") (λ b. omega (arith, b)) is
-    go (mode.Restore file new_file grants above) fits is at h = apart (codes "format") (codes "restore") (λ b. omega (arith, b)) is
+    go : (m : Mode) → IsInRange m → word ≡ command_word m → HasOptions rows m → ⊥
+    go (mode.Edit e) fits is h = never e fits is h
+    go (mode.Format file net_id slots) fits is h = true≢false (sym is_key ∙ ap (λ w. is_edit_key (key w)) is)
+    go (mode.List file) fits is h = true≢false (sym is_key ∙ ap (λ w. is_edit_key (key w)) is)
+    go (mode.Serve file listen links) fits is h = true≢false (sym is_key ∙ ap (λ w. is_edit_key (key w)) is)
+    go (mode.Run file listen links) fits is h = true≢false (sym is_key ∙ ap (λ w. is_edit_key (key w)) is)
+    go (mode.Stop file) fits is h = true≢false (sym is_key ∙ ap (λ w. is_edit_key (key w)) is)
+    go (mode.Devices file) fits is h = true≢false (sym is_key ∙ ap (λ w. is_edit_key (key w)) is)
+    go (mode.Watch file) fits is h = true≢false (sym is_key ∙ ap (λ w. is_edit_key (key w)) is)
+    go (mode.Status file wait) fits is h = true≢false (sym is_key ∙ ap (λ w. is_edit_key (key w)) is)
+    go (mode.Restore file new_file grants above) fits is h = true≢false (sym is_key ∙ ap (λ w. is_edit_key (key w)) is)
+
+-- a `format` without a NetID or a number of slots
+pub no_format : (rows : List Row) → ((n s : ℕ) → n < 64 → AreSlots s → HasNewStore rows n s → ⊥) → AsksForNone (codes "format") rows
+no_format rows never m fits h = go m fits h.0 h.2
+  where
+    go : (m : Mode) → IsInRange m → codes "format" ≡ command_word m → HasOptions rows m → ⊥
+    go (mode.Format file net_id slots) fits is h = never net_id slots fits.0 fits.1 h
+    go (mode.List file) fits is h = apart (codes "format") (codes "list") (λ b. omega (arith, b)) is
+    go (mode.Serve file listen links) fits is h = apart (codes "format") (codes "serve") (λ b. omega (arith, b)) is
+    go (mode.Run file listen links) fits is h = apart (codes "format") (codes "run") (λ b. omega (arith, b)) is
+    go (mode.Stop file) fits is h = apart (codes "format") (codes "stop") (λ b. omega (arith, b)) is
+    go (mode.Devices file) fits is h = apart (codes "format") (codes "devices") (λ b. omega (arith, b)) is
+    go (mode.Watch file) fits is h = apart (codes "format") (codes "watch") (λ b. omega (arith, b)) is
+    go (mode.Status file wait) fits is h = apart (codes "format") (codes "status") (λ b. omega (arith, b)) is
+    go (mode.Restore file new_file grants above) fits is h = apart (codes "format") (codes "restore") (λ b. omega (arith, b)) is
+    go (mode.Edit e) fits is h = not_edit (codes "format") e refl is
 
 -- a `serve` without an address or a number of links
-pub no_serve : (asked : Option (Text × List Row)) (rows : List Row) → asked ≡ Some (codes "serve", rows)
-    → ((t : Text) (s : ℕ) → 1 ≤ s → s ≤ 80 → HasLinkOptions rows t s → ⊥)
-    → HasNoMode asked
-no_serve asked rows e never = no_mode asked (codes "serve") rows e go
+pub no_serve : (rows : List Row) → ((t : Text) (s : ℕ) → 1 ≤ s → s ≤ 80 → HasLinkOptions rows t s → ⊥) → AsksForNone (codes "serve") rows
+no_serve rows never m fits h = go m fits h.0 h.2
   where
-    go : (m : Mode) → IsInRange m → codes "serve" ≡ command_word m → first_of (codes "file") rows ≡ Some (mode_file m) → HasOptions rows m → ⊥
-    go (mode.Serve file listen links) fits is at h = never listen.now links fits.0 fits.1 h
-    go (mode.Format file net_id slots) fits is at h = apart (codes "serve") (codes "format") (λ b. omega (arith, b)) is
-    go (mode.List file) fits is at h = apart (codes "serve") (codes "list") (λ b. omega (arith, b)) is
-    go (mode.Run file listen links) fits is at h = apart (codes "serve") (codes "run") (λ b. omega (arith, b)) is
-    go (mode.Stop file) fits is at h = apart (codes "serve") (codes "stop") (λ b. omega (arith, b)) is
-    go (mode.Devices file) fits is at h = apart (codes "serve") (codes "devices") (λ b. omega (arith, b)) is
-    go (mode.Watch file) fits is at h = apart (codes "serve") (codes "watch") (λ b. omega (arith, b)) is
-    go (mode.Status file wait) fits is at h = apart (codes "serve") (codes "status") (λ b. omega (arith, b)) is
-    go (mode.Restore file new_file grants above) fits is at h = apart (codes "serve") (codes "restore") (λ b. omega (arith, b)) is
+    go : (m : Mode) → IsInRange m → codes "serve" ≡ command_word m → HasOptions rows m → ⊥
+    go (mode.Serve file listen links) fits is h = never listen.now links fits.0 fits.1 h
+    go (mode.Format file net_id slots) fits is h = apart (codes "serve") (codes "format") (λ b. omega (arith, b)) is
+    go (mode.List file) fits is h = apart (codes "serve") (codes "list") (λ b. omega (arith, b)) is
+    go (mode.Run file listen links) fits is h = apart (codes "serve") (codes "run") (λ b. omega (arith, b)) is
+    go (mode.Stop file) fits is h = apart (codes "serve") (codes "stop") (λ b. omega (arith, b)) is
+    go (mode.Devices file) fits is h = apart (codes "serve") (codes "devices") (λ b. omega (arith, b)) is
+    go (mode.Watch file) fits is h = apart (codes "serve") (codes "watch") (λ b. omega (arith, b)) is
+    go (mode.Status file wait) fits is h = apart (codes "serve") (codes "status") (λ b. omega (arith, b)) is
+    go (mode.Restore file new_file grants above) fits is h = apart (codes "serve") (codes "restore") (λ b. omega (arith, b)) is
+    go (mode.Edit e) fits is h = not_edit (codes "serve") e refl is
 
 -- the same of a `run`
-pub no_run : (asked : Option (Text × List Row)) (rows : List Row) → asked ≡ Some (codes "run", rows)
-    → ((t : Text) (s : ℕ) → 1 ≤ s → s ≤ 96 → HasLinkOptions rows t s → ⊥)
-    → HasNoMode asked
-no_run asked rows e never = no_mode asked (codes "run") rows e go
+pub no_run : (rows : List Row) → ((t : Text) (s : ℕ) → 1 ≤ s → s ≤ 96 → HasLinkOptions rows t s → ⊥) → AsksForNone (codes "run") rows
+no_run rows never m fits h = go m fits h.0 h.2
   where
-    go : (m : Mode) → IsInRange m → codes "run" ≡ command_word m → first_of (codes "file") rows ≡ Some (mode_file m) → HasOptions rows m → ⊥
-    go (mode.Run file listen links) fits is at h = never listen.now links fits.0 fits.1 h
-    go (mode.Format file net_id slots) fits is at h = apart (codes "run") (codes "format") (λ b. omega (arith, b)) is
-    go (mode.List file) fits is at h = apart (codes "run") (codes "list") (λ b. omega (arith, b)) is
-    go (mode.Serve file listen links) fits is at h = apart (codes "run") (codes "serve") (λ b. omega (arith, b)) is
-    go (mode.Stop file) fits is at h = apart (codes "run") (codes "stop") (λ b. omega (arith, b)) is
-    go (mode.Devices file) fits is at h = apart (codes "run") (codes "devices") (λ b. omega (arith, b)) is
-    go (mode.Watch file) fits is at h = apart (codes "run") (codes "watch") (λ b. omega (arith, b)) is
-    go (mode.Status file wait) fits is at h = apart (codes "run") (codes "status") (λ b. omega (arith, b)) is
-    go (mode.Restore file new_file grants above) fits is at h = apart (codes "run") (codes "restore") (λ b. omega (arith, b)) is
+    go : (m : Mode) → IsInRange m → codes "run" ≡ command_word m → HasOptions rows m → ⊥
+    go (mode.Run file listen links) fits is h = never listen.now links fits.0 fits.1 h
+    go (mode.Format file net_id slots) fits is h = apart (codes "run") (codes "format") (λ b. omega (arith, b)) is
+    go (mode.List file) fits is h = apart (codes "run") (codes "list") (λ b. omega (arith, b)) is
+    go (mode.Serve file listen links) fits is h = apart (codes "run") (codes "serve") (λ b. omega (arith, b)) is
+    go (mode.Stop file) fits is h = apart (codes "run") (codes "stop") (λ b. omega (arith, b)) is
+    go (mode.Devices file) fits is h = apart (codes "run") (codes "devices") (λ b. omega (arith, b)) is
+    go (mode.Watch file) fits is h = apart (codes "run") (codes "watch") (λ b. omega (arith, b)) is
+    go (mode.Status file wait) fits is h = apart (codes "run") (codes "status") (λ b. omega (arith, b)) is
+    go (mode.Restore file new_file grants above) fits is h = apart (codes "run") (codes "restore") (λ b. omega (arith, b)) is
+    go (mode.Edit e) fits is h = not_edit (codes "run") e refl is
 
 -- a `status` without a number of seconds
-pub no_status : (asked : Option (Text × List Row)) (rows : List Row) → asked ≡ Some (codes "status", rows)
-    → ((s : ℕ) → s ≤ 3600 → IsNumberOf (codes "wait") rows s → ⊥)
-    → HasNoMode asked
-no_status asked rows e never = no_mode asked (codes "status") rows e go
+pub no_status : (rows : List Row) → ((s : ℕ) → s ≤ 3600 → IsNumberOf (codes "wait") rows s → ⊥) → AsksForNone (codes "status") rows
+no_status rows never m fits h = go m fits h.0 h.2
   where
-    go : (m : Mode) → IsInRange m → codes "status" ≡ command_word m → first_of (codes "file") rows ≡ Some (mode_file m) → HasOptions rows m → ⊥
-    go (mode.Status file wait) fits is at h = never wait fits h
-    go (mode.Format file net_id slots) fits is at h = apart (codes "status") (codes "format") (λ b. omega (arith, b)) is
-    go (mode.List file) fits is at h = apart (codes "status") (codes "list") (λ b. omega (arith, b)) is
-    go (mode.Serve file listen links) fits is at h = apart (codes "status") (codes "serve") (λ b. omega (arith, b)) is
-    go (mode.Run file listen links) fits is at h = apart (codes "status") (codes "run") (λ b. omega (arith, b)) is
-    go (mode.Stop file) fits is at h = apart (codes "status") (codes "stop") (λ b. omega (arith, b)) is
-    go (mode.Devices file) fits is at h = apart (codes "status") (codes "devices") (λ b. omega (arith, b)) is
-    go (mode.Watch file) fits is at h = apart (codes "status") (codes "watch") (λ b. omega (arith, b)) is
-    go (mode.Restore file new_file grants above) fits is at h = apart (codes "status") (codes "restore") (λ b. omega (arith, b)) is
+    go : (m : Mode) → IsInRange m → codes "status" ≡ command_word m → HasOptions rows m → ⊥
+    go (mode.Status file wait) fits is h = never wait fits h
+    go (mode.Format file net_id slots) fits is h = apart (codes "status") (codes "format") (λ b. omega (arith, b)) is
+    go (mode.List file) fits is h = apart (codes "status") (codes "list") (λ b. omega (arith, b)) is
+    go (mode.Serve file listen links) fits is h = apart (codes "status") (codes "serve") (λ b. omega (arith, b)) is
+    go (mode.Run file listen links) fits is h = apart (codes "status") (codes "run") (λ b. omega (arith, b)) is
+    go (mode.Stop file) fits is h = apart (codes "status") (codes "stop") (λ b. omega (arith, b)) is
+    go (mode.Devices file) fits is h = apart (codes "status") (codes "devices") (λ b. omega (arith, b)) is
+    go (mode.Watch file) fits is h = apart (codes "status") (codes "watch") (λ b. omega (arith, b)) is
+    go (mode.Restore file new_file grants above) fits is h = apart (codes "status") (codes "restore") (λ b. omega (arith, b)) is
+    go (mode.Edit e) fits is h = not_edit (codes "status") e refl is
 
 -- a `restore` without a new file or a number of grants
-pub no_restore : (asked : Option (Text × List Row)) (rows : List Row) → asked ≡ Some (codes "restore", rows)
-    → ((t : Text) (n : ℕ) → 1 ≤ n → n ≤ 65536 → first_of (codes "new") rows ≡ Some t → IsNumberOf (codes "grants") rows n → ⊥)
-    → HasNoMode asked
-no_restore asked rows e never = no_mode asked (codes "restore") rows e go
+pub no_restore : (rows : List Row) → ((t : Text) (n : ℕ) → 1 ≤ n → n ≤ 65536 → first_of (codes "new") rows ≡ Some t → IsNumberOf (codes "grants") rows n → ⊥) → AsksForNone (codes "restore") rows
+no_restore rows never m fits h = go m fits h.0 h.2
   where
-    go : (m : Mode) → IsInRange m → codes "restore" ≡ command_word m → first_of (codes "file") rows ≡ Some (mode_file m) → HasOptions rows m → ⊥
-    go (mode.Restore file new_file grants above) fits is at h = never new_file.now grants fits.0 fits.1 h.0 h.1
-    go (mode.Format file net_id slots) fits is at h = apart (codes "restore") (codes "format") (λ b. omega (arith, b)) is
-    go (mode.List file) fits is at h = apart (codes "restore") (codes "list") (λ b. omega (arith, b)) is
-    go (mode.Serve file listen links) fits is at h = apart (codes "restore") (codes "serve") (λ b. omega (arith, b)) is
-    go (mode.Run file listen links) fits is at h = apart (codes "restore") (codes "run") (λ b. omega (arith, b)) is
-    go (mode.Stop file) fits is at h = apart (codes "restore") (codes "stop") (λ b. omega (arith, b)) is
-    go (mode.Devices file) fits is at h = apart (codes "restore") (codes "devices") (λ b. omega (arith, b)) is
-    go (mode.Watch file) fits is at h = apart (codes "restore") (codes "watch") (λ b. omega (arith, b)) is
-    go (mode.Status file wait) fits is at h = apart (codes "restore") (codes "status") (λ b. omega (arith, b)) is
+    go : (m : Mode) → IsInRange m → codes "restore" ≡ command_word m → HasOptions rows m → ⊥
+    go (mode.Restore file new_file grants above) fits is h = never new_file.now grants fits.0 fits.1 h.0 h.1
+    go (mode.Format file net_id slots) fits is h = apart (codes "restore") (codes "format") (λ b. omega (arith, b)) is
+    go (mode.List file) fits is h = apart (codes "restore") (codes "list") (λ b. omega (arith, b)) is
+    go (mode.Serve file listen links) fits is h = apart (codes "restore") (codes "serve") (λ b. omega (arith, b)) is
+    go (mode.Run file listen links) fits is h = apart (codes "restore") (codes "run") (λ b. omega (arith, b)) is
+    go (mode.Stop file) fits is h = apart (codes "restore") (codes "stop") (λ b. omega (arith, b)) is
+    go (mode.Devices file) fits is h = apart (codes "restore") (codes "devices") (λ b. omega (arith, b)) is
+    go (mode.Watch file) fits is h = apart (codes "restore") (codes "watch") (λ b. omega (arith, b)) is
+    go (mode.Status file wait) fits is h = apart (codes "restore") (codes "status") (λ b. omega (arith, b)) is
+    go (mode.Edit e) fits is h = not_edit (codes "restore") e refl is
+
+-- an `import` with a half of a new store
+pub no_import : (rows : List Row) → ((t : Text) → first_of (codes "csv") rows ≡ Some t → HasNoNewStore rows → ⊥) → ((t : Text) (n s : ℕ) → n < 64 → AreSlots s → first_of (codes "csv") rows ≡ Some t → HasNewStore rows n s → ⊥) → AsksForNone (codes "import") rows
+no_import rows there new = no_edit (codes "import") rows refl go
+  where
+    go : (e : Edit) → IsEditInRange e → codes "import" ≡ edit_word e → HasEditOptions rows e → ⊥
+    go (edit.Export file keys) fits is h = apart (codes "import") (codes "export") (λ b. omega (arith, b)) is
+    go (edit.Import csv file dry_run) fits is h = there csv.now h.0 h.1
+    go (edit.ImportAsNew csv file net_id slots dry_run) fits is h = new csv.now net_id slots fits.0 fits.1 h.0 h.1
+    go (edit.Amend file csv dry_run) fits is h = apart (codes "import") (codes "amend") (λ b. omega (arith, b)) is
+    go (edit.Retire file dev_euis dry_run) fits is h = apart (codes "import") (codes "retire") (λ b. omega (arith, b)) is
+    go (edit.Grow file new_file slots dry_run) fits is h = apart (codes "import") (codes "grow") (λ b. omega (arith, b)) is
+
+-- an `amend` without a list
+pub no_amend : (rows : List Row) → ((t : Text) → first_of (codes "csv") rows ≡ Some t → ⊥) → AsksForNone (codes "amend") rows
+no_amend rows never = no_edit (codes "amend") rows refl go
+  where
+    go : (e : Edit) → IsEditInRange e → codes "amend" ≡ edit_word e → HasEditOptions rows e → ⊥
+    go (edit.Export file keys) fits is h = apart (codes "amend") (codes "export") (λ b. omega (arith, b)) is
+    go (edit.Import csv file dry_run) fits is h = apart (codes "amend") (codes "import") (λ b. omega (arith, b)) is
+    go (edit.ImportAsNew csv file net_id slots dry_run) fits is h = apart (codes "amend") (codes "import") (λ b. omega (arith, b)) is
+    go (edit.Amend file csv dry_run) fits is h = never csv.now h.0
+    go (edit.Retire file dev_euis dry_run) fits is h = apart (codes "amend") (codes "retire") (λ b. omega (arith, b)) is
+    go (edit.Grow file new_file slots dry_run) fits is h = apart (codes "amend") (codes "grow") (λ b. omega (arith, b)) is
+
+-- a `retire` without DevEUIs
+pub no_retire : (rows : List Row) → ((euis : List Eui) → AllByRecursion IsEui euis → all_of (codes "deveui") rows ≡ Some (map eui_text euis) → ⊥) → AsksForNone (codes "retire") rows
+no_retire rows never = no_edit (codes "retire") rows refl go
+  where
+    go : (e : Edit) → IsEditInRange e → codes "retire" ≡ edit_word e → HasEditOptions rows e → ⊥
+    go (edit.Export file keys) fits is h = apart (codes "retire") (codes "export") (λ b. omega (arith, b)) is
+    go (edit.Import csv file dry_run) fits is h = apart (codes "retire") (codes "import") (λ b. omega (arith, b)) is
+    go (edit.ImportAsNew csv file net_id slots dry_run) fits is h = apart (codes "retire") (codes "import") (λ b. omega (arith, b)) is
+    go (edit.Amend file csv dry_run) fits is h = apart (codes "retire") (codes "amend") (λ b. omega (arith, b)) is
+    go (edit.Retire file dev_euis dry_run) fits is h = never dev_euis.items fits h.0
+    go (edit.Grow file new_file slots dry_run) fits is h = apart (codes "retire") (codes "grow") (λ b. omega (arith, b)) is
+
+-- a `grow` without a new file or a number of slots
+pub no_grow : (rows : List Row) → ((t : Text) (s : ℕ) → AreSlots s → first_of (codes "new") rows ≡ Some t → IsNumberOf (codes "slots") rows s → ⊥) → AsksForNone (codes "grow") rows
+no_grow rows never = no_edit (codes "grow") rows refl go
+  where
+    go : (e : Edit) → IsEditInRange e → codes "grow" ≡ edit_word e → HasEditOptions rows e → ⊥
+    go (edit.Export file keys) fits is h = apart (codes "grow") (codes "export") (λ b. omega (arith, b)) is
+    go (edit.Import csv file dry_run) fits is h = apart (codes "grow") (codes "import") (λ b. omega (arith, b)) is
+    go (edit.ImportAsNew csv file net_id slots dry_run) fits is h = apart (codes "grow") (codes "import") (λ b. omega (arith, b)) is
+    go (edit.Amend file csv dry_run) fits is h = apart (codes "grow") (codes "amend") (λ b. omega (arith, b)) is
+    go (edit.Retire file dev_euis dry_run) fits is h = apart (codes "grow") (codes "retire") (λ b. omega (arith, b)) is
+    go (edit.Grow file new_file slots dry_run) fits is h = never new_file.now slots fits h.0 h.1
 
 -- the number of an option that wasn't read is above 65,535
 pub number_missed : (E : Type 0) (G : List ℕ → Result ℕ E → Type 0) → ((t : List ℕ) (x : Result ℕ E) → G t x → ParsesUnsigned 32 10 t x)
@@ -180,3 +276,53 @@ number_missed E G parses f id r n value is h fits = read r is (value h.0 (one_te
 pub number_once : (id : Text) (rows : List Row) (m n : ℕ) → IsNumberOf id rows m → IsNumberOf id rows n → m ≡ n
 number_once id rows m n a b =
     sym a.3 ∙ ap (λ t. digits_value 10 (without_leading_plus t)) (same a.0 b.0 (sym a.1 ∙ b.1)) ∙ b.3
+
+-- a flag, as clap answers
+pub flag_met : (f : Found) (id : Text) (given : Bool) → (one_text f id ≡ None → given ≡ false)
+    → (one_text f id ≡ Some (codes "true") → given ≡ true) → (one_text f id ≡ Some (codes "false") → given ≡ false)
+    → IsFlagOf id (rows_of f) given
+flag_met f id given none shown hidden = (
+  λ e. shown (one_text-rows f id ∙ e),
+  λ e. hidden (one_text-rows f id ∙ e),
+  λ e. none (one_text-rows f id ∙ e),
+)
+
+-- neither option of a new store was given, or one was
+pub without_new_store : (f : Found) (net_id slots : Option (Bor Text)) → option_map (λ s. s.now) net_id ≡ first_value f (codes "netid")
+    → option_map (λ s. s.now) slots ≡ first_value f (codes "slots")
+    → MatchBool (is_none net_id && is_none slots) (HasNoNewStore (rows_of f)) (HasNoNewStore (rows_of f) → ⊥)
+without_new_store f None None n s = (text_asked f (codes "netid") None n, text_asked f (codes "slots") None s)
+without_new_store f None (Some t) n s = λ h. none-some t.now (sym h.1 ∙ text_asked f (codes "slots") (Some t.now) s)
+without_new_store f (Some t) slots n s = λ h. none-some t.now (sym h.0 ∙ text_asked f (codes "netid") (Some t.now) n)
+
+-- one of them was given
+pub with_net_id : (f : Found) (net_id : Option (Bor Text)) (b : Bool) → option_map (λ s. s.now) net_id ≡ first_value f (codes "netid")
+    → b ≡ is_none net_id → b ≡ false → MatchBool b (HasNoNewStore (rows_of f)) (HasNoNewStore (rows_of f) → ⊥)
+with_net_id f None b n is e = absurd (true≢false (sym is ∙ e))
+with_net_id f (Some t) b n is e =
+    subst (λ b. MatchBool b (HasNoNewStore (rows_of f)) (HasNoNewStore (rows_of f) → ⊥)) (sym e)
+    (λ h. none-some t.now (sym h.0 ∙ text_asked f (codes "netid") (Some t.now) n))
+
+-- the two cases of an option
+pub in_none : {A : Type 0} (P : Type 0) (Q : A → Type 0) (o : Option A) → o ≡ None → MatchOption o P Q → P
+in_none P Q None e p = p
+in_none P Q (Some x) e q = absurd (none-some x (sym e))
+
+pub in_some : {A : Type 0} (P : Type 0) (Q : A → Type 0) (o : Option A) (x : A) → o ≡ Some x → MatchOption o P Q → Q x
+in_some P Q None x e p = absurd (none-some x e)
+in_some P Q (Some y) x e q = subst Q (same y x e) q
+
+-- the values of a word, if there are any
+pub raw_met : (f : Found) (id : Text) (r : Option (Bor (List (Bor Text)))) → option_map (λ s. map (λ v. v.now) s.now) r ≡ option_map raw_values (matched_of f id)
+    → all_of id (rows_of f) ≡ option_map (λ s. map (λ v. v.now) s.now) r
+raw_met f id r e = sym (raw_values-rows f id) ∙ sym e
+
+-- texts of EUIs have an EUI at each place
+pub eui_at : (texts : List (Bor Text)) (euis : List Eui) (i : ℕ) (t : Bor Text) → i < length texts
+    → AllByRecursion IsEui euis → map eui_text euis ≡ map (λ t. t.now) texts → (e : Eui) × IsEui e × (eui_text e ≡ (get_or texts i t).now)
+eui_at [] euis i t below all same_texts = absurd (omega (arith, below))
+eui_at (first ∷ texts) [] i t below all same_texts = absurd (omega (arith, ap length same_texts))
+eui_at (first ∷ texts) (e ∷ euis) zero t below all same_texts =
+    (e, all.0, ap (λ l. get_or l 0 (eui_text e)) same_texts)
+eui_at (first ∷ texts) (e ∷ euis) (suc i) t below all same_texts =
+    eui_at texts euis i t (omega (arith, below)) all.1 (ap (drop 1) same_texts)

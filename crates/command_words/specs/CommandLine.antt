@@ -3,7 +3,7 @@ use Rattle.std.specs.Prelude.{◌≡◌, ◌∷◌, [], IfOk, Result, Some, code
 use Rattle.clap.specs.Words.{App, Rule, Text, app_of, new_app, new_rule, with_rule, with_subcommand}
 use Rattle.clap.specs.declared.builder.command.Command.{Command}
 use Rattle.clap.specs.declared.builder.command.Command.TheViews.{out-Command as fields_of}
-use Rattle.clap.specs.declared.builder.action.ArgAction.TheVariants.{Set}
+use Rattle.clap.specs.declared.builder.action.ArgAction.TheVariants.{Append, Set, SetTrue}
 use Rattle.clap.specs.declared.builder.value_parser.ValueParser.TheVariants.{Signed}
 
 -- a word that is required
@@ -30,9 +30,21 @@ or_else option value = record option { required = false; defaults = value ∷ []
 abbrev pub left_out : Rule → Rule
 left_out option = record option { required = false }
 
+-- words of which one is required
+abbrev pub words_of : Text → Rule
+words_of id = record (word id) { action = Some Append }
+
+-- an option without a value
+abbrev pub flag : Text → Rule
+flag id = record (new_rule id) { long = Some id; action = Some SetTrue }
+
+-- the number of slots of a store
+abbrev pub slots_option : Rule
+slots_option = count_option (codes "slots") (pos 4096)
+
 abbrev pub format_line : App
 format_line = with_rule (with_rule (with_rule (new_app (codes "format")) (word (codes "file")))
-    (option (codes "netid"))) (count_option (codes "slots") (pos 4096))
+    (option (codes "netid"))) slots_option
 
 abbrev pub list_line : App
 list_line = with_rule (new_app (codes "list")) (word (codes "file"))
@@ -64,6 +76,27 @@ restore_line = with_rule (with_rule (with_rule (with_rule (new_app (codes "resto
     (or_else (count_option (codes "grants") (pos 65536)) (codes "1024")))
     (left_out (option (codes "above")))
 
+abbrev pub export_line : App
+export_line = with_rule (with_rule (new_app (codes "export")) (word (codes "file")))
+    (flag (codes "keys"))
+
+abbrev pub import_line : App
+import_line = with_rule (with_rule (with_rule (with_rule (with_rule (new_app (codes "import"))
+    (word (codes "csv"))) (word (codes "file"))) (left_out (option (codes "netid"))))
+    (left_out slots_option)) (flag (codes "dry-run"))
+
+abbrev pub amend_line : App
+amend_line = with_rule (with_rule (with_rule (new_app (codes "amend"))
+    (word (codes "file"))) (word (codes "csv"))) (flag (codes "dry-run"))
+
+abbrev pub retire_line : App
+retire_line = with_rule (with_rule (with_rule (new_app (codes "retire"))
+    (word (codes "file"))) (words_of (codes "deveui"))) (flag (codes "dry-run"))
+
+abbrev pub grow_line : App
+grow_line = with_rule (with_rule (with_rule (with_rule (new_app (codes "grow"))
+    (word (codes "file"))) (word (codes "new"))) slots_option) (flag (codes "dry-run"))
+
 -- `lnsd` without the name of the program, before its commands
 abbrev pub top_line : App
 top_line =
@@ -76,11 +109,16 @@ top_line =
       };
     }
 
-abbrev pub lnsd_line : App
-lnsd_line = with_subcommand (with_subcommand (with_subcommand (with_subcommand (with_subcommand
+-- the commands for a store that is served, or will be
+abbrev pub serving_line : App
+serving_line = with_subcommand (with_subcommand (with_subcommand (with_subcommand (with_subcommand
     (with_subcommand (with_subcommand (with_subcommand (with_subcommand top_line format_line.top)
     list_line.top) serve_line.top) run_line.top) stop_line.top) status_line.top) restore_line.top)
     devices_line.top) watch_line.top
+
+abbrev pub lnsd_line : App
+lnsd_line = with_subcommand (with_subcommand (with_subcommand (with_subcommand (with_subcommand
+    serving_line export_line.top) import_line.top) amend_line.top) retire_line.top) grow_line.top
 
 -- the command that was made, if one was, has this line
 abbrev pub HasLine : {E : Type 0} → App → Result Command E → Type 0

@@ -2,20 +2,22 @@
 ghost use Rattle.std.specs.Prelude.{◌≡◌, ◌≤ℤ◌, codes, false, pos};
 ghost use Rattle.clap.specs.Words.{App, Rule, new_app, rule_of, with_rule, with_subcommand};
 ghost use Rattle.clap.specs.declared.builder.value_parser.ValueParser.TheVariants as parsers;
-ghost use Rattle.command_words.specs.CommandLine.{HasLine, IsCommand, devices_line, format_line};
-ghost use Rattle.command_words.specs.CommandLine.{left_out, list_line, lnsd_line, option, or_else};
-ghost use Rattle.command_words.specs.CommandLine.{range_option, restore_line, run_line};
-ghost use Rattle.command_words.specs.CommandLine.{serve_line, status_line, stop_line, top_line};
-ghost use Rattle.command_words.specs.CommandLine.{watch_line, word};
+ghost use Rattle.command_words.specs.CommandLine.{HasLine, IsCommand, amend_line, devices_line};
+ghost use Rattle.command_words.specs.CommandLine.{export_line, flag, format_line, grow_line};
+ghost use Rattle.command_words.specs.CommandLine.{import_line, left_out, list_line, lnsd_line};
+ghost use Rattle.command_words.specs.CommandLine.{option, or_else, range_option, restore_line};
+ghost use Rattle.command_words.specs.CommandLine.{retire_line, run_line, serve_line, serving_line};
+ghost use Rattle.command_words.specs.CommandLine.{slots_option, status_line, stop_line, top_line};
+ghost use Rattle.command_words.specs.CommandLine.{watch_line, word, words_of};
 
 use clap::builder::ValueParser;
 use clap::{Arg, ArgAction, Command, value_parser};
 use std::alloc::{AllocError, Global};
 
 // What `lnsd --version` prints after the name. The twelve digits and `none` are placeholders:
-// bin/package fills them in, in the finished program that it packs, with the commit and with what was
-// proved. It can't be done in this source, since a commit can't name itself, and since a changed
-// source would have to be proved again. The text must be in the program exactly once.
+// bin/package fills them in, in the finished program that it packs, with the commit and with what
+// was proved. It can't be done in this source, since a commit can't name itself, and since a
+// changed source would have to be proved again. The text must be in the program exactly once.
 const VERSION: &str = "0.1.0, commit 000000000000, proof: none";
 
 const EXAMPLES: &str = "\
@@ -28,7 +30,12 @@ Examples:
   lnsd stop store
   lnsd list store
   lnsd serve store --listen 127.0.0.1:5600 --links 2
-  lnsd restore copy store";
+  lnsd restore copy store
+  lnsd export store
+  lnsd import devices.csv store
+  lnsd amend store changes.csv
+  lnsd retire store 0000000000000001
+  lnsd grow store larger --slots 1024";
 
 const FORMAT_EXAMPLE: &str = "\
 Example: a store of network 00002A with room for 64 devices
@@ -69,9 +76,42 @@ const WATCH_EXAMPLE: &str = "\
 Example: which frames are refused, and why
   lnsd watch store | grep refused";
 
+const EXPORT_EXAMPLE: &str = "\
+Example: a list with AppKeys, for another store
+  lnsd export store --keys > devices.csv";
+
+const IMPORT_EXAMPLE: &str = "\
+With --netid and --slots it makes FILE, as a store of the devices of the list alone.
+
+Example: devices of another network server
+  lnsd import devices.csv store --netid 00002A --slots 1024";
+
+const AMEND_EXAMPLE: &str = "\
+Example: what it would do
+  lnsd amend store changes.csv --dry-run";
+
+const RETIRE_EXAMPLE: &str = "\
+Example:
+  lnsd retire store 0000000000000001 0000000000000002";
+
+const GROW_EXAMPLE: &str = "\
+Example: a store with room for 1024 devices
+  lnsd grow store larger --slots 1024";
+
 /// The command line of `lnsd`, without the program's own name.
 pub(crate) fn lnsd<'a>(alloc: Global) -> Result<Command<'a>, AllocError>
     ensures { HasLine lnsd_line result }
+{
+    let lnsd = with_command(serving_commands(alloc), export(alloc));
+    let lnsd = with_command(lnsd, import_command(alloc));
+    let lnsd = with_command(lnsd, amend(alloc));
+    let lnsd = with_command(lnsd, retire(alloc));
+    with_command(lnsd, grow(alloc))
+}
+
+// The commands for a store that is served, or will be.
+fn serving_commands<'a>(alloc: Global) -> Result<Command<'a>, AllocError>
+    ensures { HasLine serving_line result }
 {
     let lnsd = with_command(without_commands(alloc), format(alloc));
     let lnsd = with_command(lnsd, list(alloc));
@@ -155,16 +195,8 @@ pub(crate) fn format<'a>(alloc: Global) -> Result<Command<'a>, AllocError>
         "HEX",
         "The network's NetID: 6 upper-case hexadecimal digits, from 000000 to 00003F",
     );
-    let slots = number_option(
-        alloc,
-        "slots",
-        "N",
-        "The number of slots for devices, which can't be changed later: from 1 to 4096",
-        1,
-        4096,
-    );
     let format = file_command(alloc, "format", about, FORMAT_EXAMPLE, file);
-    with_arg(with_arg(format, net_id), slots)
+    with_arg(with_arg(format, net_id), slots(alloc))
 }
 
 fn list<'a>(alloc: Global) -> Result<Command<'a>, AllocError>
@@ -263,6 +295,130 @@ fn restore<'a>(alloc: Global) -> Result<Command<'a>, AllocError>
     let restore = file_command(alloc, "restore", about, RESTORE_EXAMPLE, copy);
     let restore = with_arg(with_arg(restore, new), or_else(grants(alloc), "1024"));
     with_arg(restore, left_out(above(alloc)))
+}
+
+fn export<'a>(alloc: Global) -> Result<Command<'a>, AllocError>
+    ensures { IsCommand export_line result }
+{
+    let about = "Prints the devices of a store that isn't being served, as a CSV list";
+    let keys = flag(alloc, "keys", "With the AppKeys of the devices");
+    let export = file_command(alloc, "export", about, EXPORT_EXAMPLE, store_file(alloc));
+    with_arg(export, keys)
+}
+
+/// The words of `lnsd import`.
+pub(crate) fn import_command<'a>(alloc: Global) -> Result<Command<'a>, AllocError>
+    ensures { IsCommand import_line result }
+{
+    let about = "Brings the devices of a CSV list into a store that isn't being served";
+    let file = word(
+        alloc,
+        "file",
+        "FILE",
+        "The file of the store; with --netid and --slots a file to make",
+    );
+    let net_id = option(
+        alloc,
+        "netid",
+        "HEX",
+        "The NetID of a new store: 6 upper-case hexadecimal digits, from 000000 to 00003F",
+    );
+    let import = file_command(alloc, "import", about, IMPORT_EXAMPLE, list_file(alloc));
+    let import = with_arg(with_arg(import, file), left_out(net_id));
+    with_arg(with_arg(import, left_out(slots(alloc))), dry_run(alloc))
+}
+
+fn amend<'a>(alloc: Global) -> Result<Command<'a>, AllocError>
+    ensures { IsCommand amend_line result }
+{
+    let about = "Changes devices of a store that isn't being served, as a CSV list says";
+    let amend = file_command(alloc, "amend", about, AMEND_EXAMPLE, store_file(alloc));
+    with_arg(with_arg(amend, list_file(alloc)), dry_run(alloc))
+}
+
+/// The words of `lnsd retire`.
+pub(crate) fn retire<'a>(alloc: Global) -> Result<Command<'a>, AllocError>
+    ensures { IsCommand retire_line result }
+{
+    let about = "Retires devices of a store that isn't being served: they can't join any more";
+    let retire = file_command(alloc, "retire", about, RETIRE_EXAMPLE, store_file(alloc));
+    with_arg(with_arg(retire, dev_euis(alloc)), dry_run(alloc))
+}
+
+fn grow<'a>(alloc: Global) -> Result<Command<'a>, AllocError>
+    ensures { IsCommand grow_line result }
+{
+    let about = "Makes a store with more slots in a new file, and closes the old one";
+    let old = word(
+        alloc,
+        "file",
+        "OLD",
+        "The file of the store, which is no store after that",
+    );
+    let new = word(
+        alloc,
+        "new",
+        "NEW",
+        "The file of the larger store, which must not exist yet",
+    );
+    let grow = file_command(alloc, "grow", about, GROW_EXAMPLE, old);
+    with_arg(with_arg(with_arg(grow, new), slots(alloc)), dry_run(alloc))
+}
+
+fn list_file<'a>(alloc: Global) -> Arg<'a>
+    ensures rule { rule_of result ≡ word (codes "csv") }
+    ensures local { result.global ≡ false }
+{
+    word(alloc, "csv", "CSV", "The file of the list")
+}
+
+fn dev_euis<'a>(alloc: Global) -> Arg<'a>
+    ensures rule { rule_of result ≡ words_of (codes "deveui") }
+    ensures local { result.global ≡ false }
+{
+    word(
+        alloc,
+        "deveui",
+        "DEVEUI",
+        "A device: 16 upper-case hexadecimal digits",
+    )
+    .action(ArgAction::Append)
+}
+
+fn slots<'a>(alloc: Global) -> Arg<'a>
+    ensures rule { rule_of result ≡ slots_option }
+    ensures local { result.global ≡ false }
+{
+    number_option(
+        alloc,
+        "slots",
+        "N",
+        "The number of slots for devices, from 1 to 4096; `lnsd grow` makes a store with more",
+        1,
+        4096,
+    )
+}
+
+fn dry_run<'a>(alloc: Global) -> Arg<'a>
+    ensures rule { rule_of result ≡ flag (codes "dry-run") }
+    ensures local { result.global ≡ false }
+{
+    flag(
+        alloc,
+        "dry-run",
+        "Prints what it would do, and writes nothing",
+    )
+}
+
+// An option without a value.
+fn flag<'a>(alloc: Global, name: &'a str, help: &'a str) -> Arg<'a>
+    ensures rule { rule_of result ≡ flag name.entry.now }
+    ensures local { result.global ≡ false }
+{
+    Arg::new(alloc, name)
+        .long(name)
+        .action(ArgAction::SetTrue)
+        .help(help)
 }
 
 fn grants<'a>(alloc: Global) -> Arg<'a>

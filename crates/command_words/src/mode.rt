@@ -1,8 +1,8 @@
 // What words ask for.
-use lw_types::{NetId, Ranged};
+use lw_types::{Eui, NetId, Ranged};
 
 /// What the words of `lnsd` ask for.
-#[derive(Clone, Copy)]
+#[derive(Drop)]
 pub enum Mode<'a> {
     /// To make the store of a network, with this number of slots, in a new file.
     Format {
@@ -54,6 +54,52 @@ pub enum Mode<'a> {
     Status {
         file: &'a str,
         wait: Ranged<0, 3600>,
+    },
+    /// To list or change the devices of the store in a file that isn't being served.
+    Edit(Edit<'a>),
+}
+
+/// What is asked of a store in a file that isn't being served. A dry run says what would be done,
+/// and writes nothing.
+#[derive(Drop)]
+pub enum Edit<'a> {
+    /// To print the list of its devices, with their AppKeys if `keys`.
+    Export {
+        file: &'a str,
+        keys: bool,
+    },
+    /// To bring the devices of the list in the file `csv` into it.
+    Import {
+        csv: &'a str,
+        file: &'a str,
+        dry_run: bool,
+    },
+    /// To make it, in a new file, with the devices of the list in the file `csv`.
+    ImportAsNew {
+        csv: &'a str,
+        file: &'a str,
+        net_id: NetId,
+        slots: Ranged<1, 4096>,
+        dry_run: bool,
+    },
+    /// To change its devices as the list in the file `csv` says.
+    Amend {
+        file: &'a str,
+        csv: &'a str,
+        dry_run: bool,
+    },
+    /// To retire these devices.
+    Retire {
+        file: &'a str,
+        dev_euis: Vec<Eui>,
+        dry_run: bool,
+    },
+    /// To make a store with its devices and this number of slots, in the new file `new`.
+    Grow {
+        file: &'a str,
+        new: &'a str,
+        slots: Ranged<1, 4096>,
+        dry_run: bool,
     },
 }
 

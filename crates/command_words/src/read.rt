@@ -1,16 +1,14 @@
 // Reading of words.
-ghost use Rattle.std.specs.Prelude.{◌≡◌, ◌<◌, ◌^◌, ℕ, [], IfErr, IfOk, IfSome, None, map};
-ghost use Rattle.clap.specs.Words.{fault_of, found_of, kind_of, rows_of, subcommand_of, Text};
-ghost use Rattle.clap.specs.Words.{subcommand_rows_of};
-ghost use Rattle.command_words.specs.Asked.{AskFor, HasLinkOptions, HasNoMode, IsModeOf};
-ghost use Rattle.command_words.specs.Asked.{IsNumberOf, IsToldOf, IsUsageOf};
+ghost use Rattle.std.specs.Prelude.{◌≡◌, [], IfErr, IfOk, MatchOption, map};
+ghost use Rattle.clap.specs.Words.{fault_of, kind_of, subcommand_of, subcommand_rows_of};
+ghost use Rattle.command_words.specs.Asked.{AskFor, HasNoMode, IsModeOf, IsToldOf, IsUsageOf};
 ghost use Rattle.command_words.specs.CommandLine.{lnsd_line};
 
-use crate::line::{format, lnsd};
+use crate::asked::asked_mode;
+use crate::line::{format, import_command, lnsd, retire};
 use crate::mode::{Mode, Usage};
 use clap::error::ErrorKind;
 use clap::{ArgMatches, Error};
-use lw_types::{FromText, NetId, Ranged};
 use std::alloc::{AllocError, Global};
 
 /// What these words, without the program's name, ask for. `Words` has clap's text if they are
@@ -26,9 +24,10 @@ pub fn words<'a>(alloc: Global, words: &'a [&'a str]) -> Result<Mode<'a>, Usage>
         Ok(matches) => matches,
         Err(error) => return Err(usage_of(alloc, &error)),
     };
-    match mode_of(&matches) {
-        Some(mode) => Ok(mode),
-        None => Err(wrong_net_id(alloc)),
+    match mode_of(alloc, &matches) {
+        Ok(Some(mode)) => Ok(mode),
+        Ok(None) => Err(wrong_value(alloc, &matches)),
+        Err(AllocError) => Err(Usage::Memory),
     }
 }
 
@@ -46,98 +45,61 @@ fn usage_of(alloc: Global, error: &Error) -> Usage
     }
 }
 
-// The text that is printed for an invalid NetID, the only value that clap doesn't read itself.
-fn wrong_net_id(alloc: Global) -> Usage
+// The text that is printed for a value that clap doesn't check itself.
+fn wrong_value(alloc: Global, matches: &ArgMatches<'_>) -> Usage
     ensures { IsToldOf ErrorKind.ValueValidation result }
 {
-    match net_id_error(alloc) {
+    let error = match matches.subcommand() {
+        Some(("import", import)) => import_error(alloc, import),
+        Some(("retire", _)) => retire_error(alloc),
+        _ => format_error(alloc),
+    };
+    match error {
         Ok(error) => usage_of(alloc, &error),
         Err(AllocError) => Usage::Memory,
     }
 }
 
-fn net_id_error(alloc: Global) -> Result<Error, AllocError>
+const WRONG_NET_ID: &str = "invalid value for '--netid <HEX>': it has 6 upper-case hexadecimal \
+    digits, from 000000 to 00003F";
+
+fn format_error(alloc: Global) -> Result<Error, AllocError>
     ensures { IfOk result (λ error. kind_of error ≡ ErrorKind.ValueValidation) }
 {
-    let message = "invalid value for '--netid <HEX>': it has 6 upper-case hexadecimal digits, \
-        from 000000 to 00003F";
     let mut command = format(alloc)?.bin_name("lnsd format")?;
+    command.error(ErrorKind::ValueValidation, WRONG_NET_ID)
+}
+
+fn import_error(alloc: Global, import: &ArgMatches<'_>) -> Result<Error, AllocError>
+    ensures { IfOk result (λ error. kind_of error ≡ ErrorKind.ValueValidation) }
+{
+    let both = import.get_str("netid").is_some() && import.get_str("slots").is_some();
+    let message = if both {
+        WRONG_NET_ID
+    } else {
+        "a new store needs both '--netid <HEX>' and '--slots <N>'"
+    };
+    let mut command = import_command(alloc)?.bin_name("lnsd import")?;
     command.error(ErrorKind::ValueValidation, message)
 }
 
-fn mode_of<'a>(matches: &ArgMatches<'a>) -> Option<Mode<'a>>
-    ensures some { IfSome result (IsModeOf (subcommand_rows_of matches.now)) }
-    ensures none { result ≡ None → HasNoMode (subcommand_rows_of matches.now) }
+fn retire_error(alloc: Global) -> Result<Error, AllocError>
+    ensures { IfOk result (λ error. kind_of error ≡ ErrorKind.ValueValidation) }
 {
-    let (name, matches) = matches.subcommand()?;
-    let file = matches.get_str("file")?;
-    match name {
-        "format" => {
-            let net_id = NetId::from_text(matches.get_str("netid")?)?;
-            let slots = Ranged::new(option_number(matches, "slots")?)?;
-            Some(Mode::Format {
-                file,
-                net_id,
-                slots,
-            })
-        }
-        "list" => Some(Mode::List { file }),
-        "serve" => {
-            let (listen, links) = link_options(matches)?;
-            let links = Ranged::new(links)?;
-            Some(Mode::Serve {
-                file,
-                listen,
-                links,
-            })
-        }
-        "run" => {
-            let (listen, links) = link_options(matches)?;
-            let links = Ranged::new(links)?;
-            Some(Mode::Run {
-                file,
-                listen,
-                links,
-            })
-        }
-        "stop" => Some(Mode::Stop { file }),
-        "devices" => Some(Mode::Devices { file }),
-        "watch" => Some(Mode::Watch { file }),
-        "status" => {
-            let wait = Ranged::new(option_number(matches, "wait")?)?;
-            Some(Mode::Status { file, wait })
-        }
-        "restore" => {
-            let new = matches.get_str("new")?;
-            let grants = Ranged::new(option_number(matches, "grants")?)?;
-            let above = matches.get_str("above");
-            Some(Mode::Restore {
-                file,
-                new,
-                grants,
-                above,
-            })
-        }
-        _ => None,
-    }
+    let message = "invalid value for '<DEVEUI>...': a DevEUI has 16 upper-case hexadecimal digits";
+    let mut command = retire(alloc)?.bin_name("lnsd retire")?;
+    command.error(ErrorKind::ValueValidation, message)
 }
 
-// The address that links connect to, and the number of links.
-fn link_options<'a>(matches: &ArgMatches<'a>) -> Option<(&'a str, u64)>
-    ensures some { IfSome result
-        (λ r. HasLinkOptions (rows_of (found_of matches.now)) r.0.now r.1) }
-    ensures none { result ≡ None → (listen : Text) (links : ℕ) → links < 2 ^ 32
-        → HasLinkOptions (rows_of (found_of matches.now)) listen links → ⊥ }
+fn mode_of<'a>(alloc: Global, matches: &ArgMatches<'a>) -> Result<Option<Mode<'a>>, AllocError>
+    ensures { IfOk result (λ mode. MatchOption mode (HasNoMode (subcommand_rows_of matches.now))
+        (IsModeOf (subcommand_rows_of matches.now))) }
 {
-    Some((matches.get_str("listen")?, option_number(matches, "links")?))
-}
-
-// The number of an option, below 2^32.
-fn option_number(matches: &ArgMatches<'_>, id: &str) -> Option<u64>
-    ensures some { IfSome result (IsNumberOf id.now (rows_of (found_of matches.now))) }
-    ensures none { result ≡ None → (n : ℕ) → n < 2 ^ 32
-        → IsNumberOf id.now (rows_of (found_of matches.now)) n → ⊥ }
-{
-    let number = matches.get_one::<u32>(id)?;
-    Some(u64::from(number))
+    let Some((name, matches)) = matches.subcommand() else {
+        return Ok(None);
+    };
+    let Some(file) = matches.get_str("file") else {
+        return Ok(None);
+    };
+    asked_mode(alloc, name, file, matches)
 }

@@ -1,7 +1,9 @@
 -- Values that are given, or not, in terms of other types of values.
 use Rattle.std.proofs.Common.{ℕ, List, Option, Some, None, Result, Ok, Err, inl, inr}
 use Rattle.std.specs.Prelude.{IsErrAnd, MatchResult}
-use Rattle.device_lists.specs.Values.{IsGivenOr, MayBeGiven}
+use Rattle.device_lists.specs.Values.{IsGivenOr, IsMissingOrWrong, MayBeGiven}
+use Rattle.device_lists.specs.declared.column.Column.{Column}
+use Rattle.device_lists.specs.declared.fault.LineFault.{LineFault}
 
 -- a call was refused, and so is the caller
 pub on_err : {T E : Type 0} (R : E → Type 0) (r : Result T E) (P : T → Type 0) (Q : Type 0) → IsErrAnd r R → Q → MatchResult r P (λ _. Q)
@@ -27,3 +29,9 @@ pub no_default : {T : Type 0} {IsValue : T → Type 0} {text_of : T → List ℕ
     → (default x : T) → ¬ (IsGivenOr IsValue text_of default field x)
 no_default refuses default x (inl absent) = refuses None absent.0
 no_default refuses default x (inr given) = refuses (Some x) given
+
+-- what is no value of one type is none of another
+pub not_of_number : {column : Column} {field : Option (List ℕ)} {A B : Type 0} {wrong : LineFault} → IsMissingOrWrong column field A wrong
+    → (B → A) → IsMissingOrWrong column field B wrong
+not_of_number (inl missing) of = inl missing
+not_of_number (inr wrong) of = inr (wrong.0, wrong.1, λ b. wrong.2 (of b))

@@ -1,3 +1,5 @@
 pub mod OneMore
 pub mod Given
-pub mod Taken
+pub mod HeadColumns
+pub mod LineByLine
+pub mod RowByRow

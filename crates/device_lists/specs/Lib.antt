@@ -1,4 +1,5 @@
 pub mod Columns
+pub mod Rows
 pub mod Values
 pub mod Export
 pub mod Lists

@@ -1,5 +1,5 @@
 -- What the values of a line say.
-use Rattle.std.specs.Prelude.{◌≡◌, ◌⊎◌, ◌<◌, ◌≤◌, ◌-◌, ◌^◌, ℕ, Bool, true, false, List, []}
+use Rattle.std.specs.Prelude.{⊤, ◌≡◌, ◌⊎◌, ◌<◌, ◌≤◌, ◌-◌, ◌^◌, ℕ, Bool, true, false, List, []}
 use Rattle.std.specs.Prelude.{Option, Some, None, codes, option_map}
 use Rattle.std.specs.Fmt.{decimal}
 use Rattle.lw_types.specs.Hex.{eui_text, key_text}
@@ -7,7 +7,14 @@ use Rattle.lw_types.specs.Values.{IsKey}
 use Rattle.lw_types.specs.declared.identifiers.Eui.{Eui}
 use Rattle.device_changes.specs.declared.change.Amendment.{Amendment}
 use Rattle.device_changes.specs.declared.change.Importing.{Importing}
+use Rattle.lw_types.specs.declared.key.Key.{Key}
+use Rattle.device_lists.specs.declared.column.Column.{Column}
+use Rattle.device_lists.specs.declared.column.Column.TheVariants as c
+use Rattle.device_lists.specs.declared.fault.LineFault.{LineFault}
+use Rattle.device_lists.specs.declared.fault.LineFault.TheVariants as fault
 use Rattle.device_lists.specs.declared.line_values.LineValues.{LineValues}
+use Rattle.device_lists.specs.declared.reading.ListUse.{ListUse}
+use Rattle.device_lists.specs.declared.reading.ListUse.TheVariants.{Import, Amend}
 use denote.Ref.{Bor}
 
 -- the text under a column, if the list has the column
@@ -28,7 +35,8 @@ IsGivenOr IsValue text_of default field x =
     (IsAbsent field × (x ≡ default)) ⊎ ((¬ (IsAbsent field)) × IsGiven IsValue text_of field x)
 
 -- the same with no value for when there is no text
-abbrev pub MayBeGiven : {T : Type 0} → (T → Type 0) → (T → List ℕ) → Option (List ℕ) → Option T → Type 0
+abbrev pub MayBeGiven : {T : Type 0} → (T → Type 0) → (T → List ℕ) → Option (List ℕ)
+    → Option T → Type 0
 MayBeGiven IsValue text_of field None = IsAbsent field
 MayBeGiven IsValue text_of field (Some x) = (¬ (IsAbsent field)) × IsGiven IsValue text_of field x
 
@@ -53,7 +61,7 @@ yes_or_no false = codes "no"
 -- what isn't used is right, too: the count of uplinks, and whether there is a session
 pub record HasRest (f : LineValues) : Type 0 where
   pub heard : (n : Option ℕ) × MayBeGiven (IsIn 0 (2 ^ 63 - 1)) decimal (text_in f.heard) n
-  pub session : (s : Option Bool) × MayBeGiven (λ _. Unit {0}) yes_or_no (text_in f.session) s
+  pub session : (s : Option Bool) × MayBeGiven (λ _. ⊤) yes_or_no (text_in f.session) s
 
 -- a line asks for an import
 pub record IsImportOf (f : LineValues) (i : Importing) : Type 0 where
@@ -86,3 +94,60 @@ pub record IsAmendmentOf (f : LineValues) (a : Amendment) : Type 0 where
   pub last_join_nonce : MayBeGiven (IsIn 0 16777215) decimal (text_in f.last_join_nonce)
       a.last_join_nonce
   pub rest : HasRest f
+
+-- ---- faults
+
+-- the text under a column, if the list has the column; names aren't kept
+abbrev pub text_under : Column → LineValues → Option (List ℕ)
+text_under c.DevEui f = text_in f.dev_eui
+text_under c.JoinEui f = text_in f.join_eui
+text_under c.AppKey f = text_in f.app_key
+text_under c.Application f = text_in f.application
+text_under c.Offset f = text_in f.offset
+text_under c.Delay f = text_in f.delay
+text_under c.LastDevNonce f = text_in f.last_dev_nonce
+text_under c.LastJoinNonce f = text_in f.last_join_nonce
+text_under c.Heard f = text_in f.heard
+text_under c.Session f = text_in f.session
+text_under c.Name f = None
+
+-- the text is that of some value of the column
+abbrev pub HasValue : Column → Option (List ℕ) → Type 0
+HasValue c.DevEui field = (x : Eui) × IsGiven IsEui eui_text field x
+HasValue c.JoinEui field = (x : Eui) × IsGiven IsEui eui_text field x
+HasValue c.AppKey field = (x : Key) × IsGiven IsKey key_text field x
+HasValue c.Application field = (n : ℕ) × IsGiven (IsIn 0 15) decimal field n
+HasValue c.Offset field = (n : ℕ) × IsGiven (IsIn 0 5) decimal field n
+HasValue c.Delay field = (n : ℕ) × IsGiven (IsIn 1 15) decimal field n
+HasValue c.LastDevNonce field = (n : ℕ) × IsGiven IsDevNonce decimal field n
+HasValue c.LastJoinNonce field = (n : ℕ) × IsGiven (IsIn 0 16777215) decimal field n
+HasValue c.Heard field = (n : ℕ) × IsGiven (IsIn 0 (2 ^ 63 - 1)) decimal field n
+HasValue c.Session field = (answer : Bool) × IsGiven (λ _. ⊤) yes_or_no field answer
+HasValue c.Name field = Unit {0}
+
+-- an import needs values of these columns, an amendment of the DevEUI alone
+abbrev pub IsNeeded : ListUse → Column → Type 0
+IsNeeded Import column =
+    (column ≡ c.DevEui) ⊎ (column ≡ c.JoinEui) ⊎ (column ≡ c.AppKey) ⊎ (column ≡ c.Application)
+IsNeeded Amend column = column ≡ c.DevEui
+
+-- the text under a column is no value of it
+abbrev pub IsWrong : Column → Option (List ℕ) → Type 0 → LineFault → Type 0
+IsWrong column field Given wrong = (wrong ≡ fault.Value column) × (¬ (IsAbsent field)) × ¬ Given
+
+-- the same, or there is no text
+abbrev pub IsMissingOrWrong : Column → Option (List ℕ) → Type 0 → LineFault → Type 0
+IsMissingOrWrong column field Given wrong =
+    ((wrong ≡ fault.Missing column) × IsAbsent field) ⊎ IsWrong column field Given wrong
+
+-- what is wrong with the values of a line
+abbrev pub IsValuesFault : ListUse → LineValues → LineFault → Type 0
+IsValuesFault usage f (fault.Missing column) =
+    IsNeeded usage column × IsAbsent (text_under column f)
+IsValuesFault usage f (fault.Value column) =
+    (¬ (IsAbsent (text_under column f))) × ¬ (HasValue column (text_under column f))
+IsValuesFault usage f fault.Count = ⊥
+IsValuesFault usage f fault.Text = ⊥
+IsValuesFault usage f (fault.UnknownColumn place) = ⊥
+IsValuesFault usage f (fault.ColumnTwice column) = ⊥
+IsValuesFault usage f (fault.Row row) = ⊥

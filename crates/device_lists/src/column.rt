@@ -1,6 +1,6 @@
 // The columns of a list.
-ghost use Rattle.std.specs.Prelude.{◌≡◌, IfSome, Some};
-ghost use Rattle.device_lists.specs.Columns.{column_name};
+ghost use Rattle.std.specs.Prelude.{◌≡◌, ◌≢◌, ◌<◌, All, HoldsAt, IfSome, MatchOption, Some, length};
+ghost use Rattle.device_lists.specs.Columns.{column_form, column_name};
 
 use std::fmt;
 
@@ -69,7 +69,10 @@ impl Column {
     }
 
     /// What its values look like, for messages.
-    pub fn form(self) -> &'static str {
+    #[tactic(auto, unfolding(crate::specs::Columns::column_form))]
+    pub fn form(self) -> &'static str
+        ensures { result.now ≡ column_form self }
+    {
         match self {
             Column::DevEui | Column::JoinEui => "16 upper-case hex digits",
             Column::AppKey => "32 upper-case hex digits",
@@ -83,6 +86,14 @@ impl Column {
             Column::Name => "a text",
         }
     }
+}
+
+/// The first place of a column in a head.
+pub(crate) fn place_of(head: &[Column], column: Column) -> Option<usize>
+    ensures { MatchOption result (All (λ c. c ≢ column) head.now)
+        (λ i. (i < length head.now) × HoldsAt (λ c. c ≡ column) head.now i) }
+{
+    head.iter().position(|named| *named == column)
 }
 
 impl fmt::Display for Column {

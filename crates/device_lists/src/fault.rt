@@ -1,4 +1,7 @@
 // What is wrong with a list.
+ghost use Rattle.std.specs.Prelude.{◌≡◌};
+ghost use Rattle.device_lists.specs.Lists.{row_fault_text};
+
 use crate::Column;
 use csv::Error as CsvError;
 use device_changes::RowFault;
@@ -71,7 +74,10 @@ impl From<CsvError> for ListFault {
 }
 
 /// What is wrong with a change.
-pub fn row_text(fault: &RowFault) -> &'static str {
+#[tactic(auto, unfolding(crate::specs::Lists::row_fault_text))]
+pub fn row_text(fault: &RowFault) -> &'static str
+    ensures { result.now ≡ row_fault_text fault.now }
+{
     match fault {
         RowFault::Repeated => "an earlier line has the same DevEUI",
         RowFault::UnknownDevEui => "the store doesn't have this DevEUI",

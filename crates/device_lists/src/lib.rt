@@ -7,6 +7,7 @@ mod export;
 mod fault;
 mod line_values;
 mod reading;
+mod rows;
 mod values;
 
 pub use column::Column;

@@ -1,5 +1,13 @@
 // The values of a line.
+ghost use Rattle.std.specs.Prelude.{◌≡◌, length};
+ghost use Rattle.csv.specs.Records.{fields_of};
+ghost use Rattle.device_lists.specs.Columns.{IsUnder};
+ghost use Rattle.device_lists.specs.Lists.{IsLine};
+ghost use Rattle.device_lists.specs.Values.{text_in};
+
 use crate::Column;
+use crate::column::place_of;
+use csv::StringRecord;
 
 /// The values of a line that devices are made of. `None` if the list has no such column.
 #[derive(Clone, Copy)]
@@ -17,65 +25,30 @@ pub struct LineValues<'a> {
 }
 
 impl<'a> LineValues<'a> {
-    /// No value at all.
-    pub const NONE: LineValues<'static> = LineValues {
-        dev_eui: None,
-        join_eui: None,
-        app_key: None,
-        application: None,
-        offset: None,
-        delay: None,
-        last_dev_nonce: None,
-        last_join_nonce: None,
-        heard: None,
-        session: None,
-    };
-
-    /// The same with this value under a column. Names aren't kept.
-    pub fn with(self, column: Column, value: &'a str) -> Self {
-        let value = Some(value);
-        match column {
-            Column::DevEui => LineValues {
-                dev_eui: value,
-                ..self
-            },
-            Column::JoinEui => LineValues {
-                join_eui: value,
-                ..self
-            },
-            Column::AppKey => LineValues {
-                app_key: value,
-                ..self
-            },
-            Column::Application => LineValues {
-                application: value,
-                ..self
-            },
-            Column::Offset => LineValues {
-                offset: value,
-                ..self
-            },
-            Column::Delay => LineValues {
-                delay: value,
-                ..self
-            },
-            Column::LastDevNonce => LineValues {
-                last_dev_nonce: value,
-                ..self
-            },
-            Column::LastJoinNonce => LineValues {
-                last_join_nonce: value,
-                ..self
-            },
-            Column::Heard => LineValues {
-                heard: value,
-                ..self
-            },
-            Column::Session => LineValues {
-                session: value,
-                ..self
-            },
-            Column::Name => self,
+    /// The values of a row that has as many as the head has columns.
+    pub(crate) fn of_row(head: &[Column], row: &'a StringRecord) -> Self
+        requires { length (fields_of row.now) ≡ length head.now }
+        ensures { IsLine head.now (fields_of row.now) result }
+    {
+        LineValues {
+            dev_eui: value_under(head, row, Column::DevEui),
+            join_eui: value_under(head, row, Column::JoinEui),
+            app_key: value_under(head, row, Column::AppKey),
+            application: value_under(head, row, Column::Application),
+            offset: value_under(head, row, Column::Offset),
+            delay: value_under(head, row, Column::Delay),
+            last_dev_nonce: value_under(head, row, Column::LastDevNonce),
+            last_join_nonce: value_under(head, row, Column::LastJoinNonce),
+            heard: value_under(head, row, Column::Heard),
+            session: value_under(head, row, Column::Session),
         }
     }
+}
+
+// The value of a row under a column.
+fn value_under<'a>(head: &[Column], row: &'a StringRecord, column: Column) -> Option<&'a str>
+    requires { length (fields_of row.now) ≡ length head.now }
+    ensures { IsUnder column head.now (fields_of row.now) (text_in result) }
+{
+    row.get(place_of(head, column)?)
 }

@@ -1,10 +1,15 @@
 // Reading a list.
-ghost use Rattle.std.specs.Prelude.{◌≡◌, [], length, IfErr, IfOk, MatchResult, OnOk};
-ghost use Rattle.std.specs.List.{AllByRecursion};
-ghost use Rattle.device_lists.specs.Lists.{IsListedChange, IsRefusedList, IsTaken};
+ghost use Rattle.std.specs.Prelude.{◌≡◌, ◌≢◌, [], ◌∷◌, IfErr, IfOk, MatchResult, OnOk, map};
+ghost use Rattle.csv.specs.Records.{AllText, fields_of};
+ghost use Rattle.device_lists.specs.Columns.{IsHead};
+ghost use Rattle.device_lists.specs.Lists.{IsHeadFault, IsListOf, IsRefusedText, IsRowFault};
+ghost use Rattle.device_lists.specs.Lists.{AreLinesOf, IsOnly, IsTaken, RowAsksFor, faulty_line};
+ghost use Rattle.device_lists.specs.declared.fault.ListFault.TheVariants.{OutOfMemory};
 
+use crate::column::place_of;
+use crate::rows::{Row, Rows};
 use crate::{Column, FaultyLine, LineFault, LineValues, ListFault, amendment_of, importing_of};
-use csv::{ByteRecord, ReaderBuilder, StringRecord};
+use csv::StringRecord;
 use device_changes::{Change, FaultyRow};
 use std::alloc::{AllocError, Global};
 
@@ -20,78 +25,61 @@ pub enum ListUse {
 /// The changes that a list asks for.
 #[derive(Drop)]
 pub struct DeviceList {
-    /// One for each line after the head, in order.
+    /// One for each row after the head, in order.
     pub changes: Vec<Change>,
     /// The line of each change, counted from 1.
     lines: Vec<u64>,
 }
 
-/// The changes that a list asks for. If a line is faulty, the refusal has each faulty line, in
-/// order. The text may begin with a byte order mark, and values may stand in quotation marks. A
-/// line that is empty or begins with `#` is skipped, and counted.
+/// The changes that a list asks for, one for each row after the head. If lines are faulty, the
+/// refusal has each of them, in order, with what is wrong. A text without a head is refused for
+/// its first line. Values may stand in quotation marks (RFC 4180). A line that is empty or begins
+/// with `#` is no row, and is counted. A byte order mark is skipped.
 pub fn read_list(alloc: Global, text: &[u8], usage: ListUse) -> Result<DeviceList, ListFault>
-    ensures changes { IfOk result
-        (λ list. AllByRecursion (IsListedChange usage) list.changes.items) }
-    ensures lines { IfOk result (λ list. length list.lines.items ≡ length list.changes.items) }
-    ensures refused { IfErr result IsRefusedList }
+    ensures { MatchResult result
+        (λ list. IsListOf usage text.now list.lines.items list.changes.items)
+        (IsRefusedText usage text.now) }
 {
-    // empty before the head, which has at least a DevEUI
-    let mut head = Vec::new(alloc);
-    let mut reading = Reading::new(alloc);
-    let mut number = 0;
-    for line in text.split(|byte| *byte == b'\n') {
-        number = next_number(number);
-        if let Some(row) = row_in(alloc, line)? {
-            if head.is_empty() {
-                head = columns_of(alloc, number, row)?;
-            } else {
-                reading.take(numbered_change(head.as_slice(), number, row, usage))?;
-            }
-        }
-    }
-    if head.is_empty() {
+    let mut rows = Rows::of(text);
+    let Some(first) = rows.next(alloc)? else {
         return Err(only_fault(alloc, 1, LineFault::Missing(Column::DevEui)));
+    };
+    let line = first.line;
+    let head = match head_of(alloc, first)? {
+        Ok(head) => head,
+        Err(fault) => return Err(only_fault(alloc, line, fault)),
+    };
+    let mut reading = Reading::new(alloc);
+    while let Some(row) = rows.next(alloc)? {
+        reading.take(numbered_change(head.as_slice(), row, usage))?;
     }
     reading.end()
 }
 
-// The number of the next line.
-fn next_number(number: u64) -> u64 {
-    number.saturating_add(1)
-}
-
-// The values of a line; `None` if it is skipped.
-fn row_in(alloc: Global, line: &[u8]) -> Result<Option<ByteRecord>, ListFault>
-    ensures { IfErr result IsRefusedList }
-{
-    if matches!(line.first(), None | Some(b'#')) {
-        return Ok(None);
-    }
-    let mut reader = ReaderBuilder::new()
-        .has_headers(false)
-        .from_reader(alloc, line);
-    let mut row = ByteRecord::new(alloc);
-    if reader.read_byte_record(&mut row)? {
-        Ok(Some(row))
-    } else {
-        Ok(None)
-    }
-}
-
 impl DeviceList {
-    /// The faulty lines of these rows of its changes.
+    /// The faulty lines of these rows of its changes. A row that it doesn't have is on line 0.
     pub fn faulty_lines(
         &self,
         alloc: Global,
         rows: &[FaultyRow],
-    ) -> Result<Vec<FaultyLine>, AllocError> {
+    ) -> Result<Vec<FaultyLine>, AllocError>
+        ensures { IfOk result
+            (λ found. found.items ≡ map (faulty_line self.now.lines.items) rows.now) }
+    {
         let mut found = Vec::new(alloc);
         for row in rows {
-            let line = self.lines.as_slice().get(row.row).copied().unwrap_or(0);
-            let fault = LineFault::Row(row.fault);
-            found.push(FaultyLine { line, fault })?;
+            found.push(self.faulty_line(row))?;
         }
         Ok(found)
+    }
+
+    fn faulty_line(&self, row: &FaultyRow) -> FaultyLine
+        ensures { result ≡ faulty_line self.now.lines.items row.now }
+    {
+        FaultyLine {
+            line: self.lines.as_slice().get(row.row).copied().unwrap_or(0),
+            fault: LineFault::Row(row.fault),
+        }
     }
 }
 
@@ -118,7 +106,7 @@ impl Reading {
         }
     }
 
-    // Takes what the next line asks for.
+    // Takes what the next row asks for.
     fn take(&mut self, read: Result<(u64, Change), FaultyLine>) -> Result<(), AllocError>
         ensures { OnOk result (IsTaken self.old read self.new) }
     {
@@ -135,7 +123,7 @@ impl Reading {
     // The list, if no line was faulty.
     fn end(self) -> Result<DeviceList, ListFault>
         ensures { MatchResult result (λ list. (list ≡ self.list) × (self.faults.items ≡ []))
-            IsRefusedList }
+            (AreLinesOf self.faults.items) }
     {
         let Reading { list, faults } = self;
         if faults.is_empty() {
@@ -146,23 +134,9 @@ impl Reading {
     }
 }
 
-// The columns that the first line names.
-fn columns_of(alloc: Global, line: u64, row: ByteRecord) -> Result<Vec<Column>, ListFault>
-    ensures { IfErr result IsRefusedList }
-{
-    let Ok(row) = StringRecord::from_byte_record(row) else {
-        return Err(only_fault(alloc, line, LineFault::Text));
-    };
-    let mut head = Vec::new(alloc);
-    match read_columns(&mut head, &row)? {
-        Ok(()) => Ok(head),
-        Err(fault) => Err(only_fault(alloc, line, fault)),
-    }
-}
-
 // One faulty line.
 fn only_fault(alloc: Global, line: u64, fault: LineFault) -> ListFault
-    ensures { IsRefusedList result }
+    ensures { IsOnly line fault result }
 {
     let mut faults = Vec::new(alloc);
     match faults.push(FaultyLine { line, fault }) {
@@ -171,59 +145,76 @@ fn only_fault(alloc: Global, line: u64, fault: LineFault) -> ListFault
     }
 }
 
-// A line's number, and the change that it asks for.
-fn numbered_change(
-    head: &[Column],
-    line: u64,
-    row: ByteRecord,
-    usage: ListUse,
-) -> Result<(u64, Change), FaultyLine>
-    ensures { IfOk result (λ read. IsListedChange usage read.1) }
+// The columns that the first row names.
+fn head_of(alloc: Global, row: Row) -> Result<Result<Vec<Column>, LineFault>, AllocError>
+    ensures { IfOk result (λ read. MatchResult read
+        (λ head. IsHead (fields_of row.values) head.items) (IsHeadFault (fields_of row.values))) }
 {
-    let read = match StringRecord::from_byte_record(row) {
-        Ok(row) => listed_change(head, &row, usage),
-        Err(_) => Err(LineFault::Text),
+    let Ok(names) = StringRecord::from_byte_record(row.values) else {
+        return Ok(Err(LineFault::Text));
     };
-    match read {
+    let mut head = Vec::new(alloc);
+    match read_columns(&mut head, &names)? {
+        Ok(()) => Ok(Ok(head)),
+        Err(fault) => Ok(Err(fault)),
+    }
+}
+
+// A row's line, and the change that the row asks for.
+fn numbered_change(head: &[Column], row: Row, usage: ListUse) -> Result<(u64, Change), FaultyLine>
+    ensures { MatchResult result
+        (λ read. (read.0 ≡ row.line) × RowAsksFor usage head.now (fields_of row.values) read.1)
+        (λ faulty. (faulty.line ≡ row.line)
+        × IsRowFault usage head.now (fields_of row.values) faulty.fault) }
+{
+    let line = row.line;
+    let Ok(values) = StringRecord::from_byte_record(row.values) else {
+        let fault = LineFault::Text;
+        return Err(FaultyLine { line, fault });
+    };
+    match listed_change(head, &values, usage) {
         Ok(change) => Ok((line, change)),
         Err(fault) => Err(FaultyLine { line, fault }),
     }
 }
 
-// The columns that the first line names, each once, DevEUI among them.
+// The columns that the first row names, each once, DevEUI among them.
 fn read_columns(
     head: &mut Vec<Column>,
-    row: &StringRecord,
-) -> Result<Result<(), LineFault>, AllocError> {
-    for (place, name) in row.into_iter().enumerate() {
+    names: &StringRecord,
+) -> Result<Result<(), LineFault>, AllocError>
+    requires { head.old.items ≡ [] }
+    ensures { IfOk result (λ read. MatchResult read
+        (λ _. IsHead (fields_of names.now) head.new.items) (IsHeadFault (fields_of names.now))) }
+{
+    while let Some(name) = names.get(head.len()) {
         let Some(column) = Column::of_name(name) else {
-            return Ok(Err(LineFault::UnknownColumn(place + 1)));
+            return Ok(Err(LineFault::UnknownColumn(head.len() + 1)));
         };
-        if head.as_slice().contains(&column) {
+        if place_of(head.as_slice(), column).is_some() {
             return Ok(Err(LineFault::ColumnTwice(column)));
         }
         head.push(column)?;
     }
-    if head.as_slice().contains(&Column::DevEui) {
+    if place_of(head.as_slice(), Column::DevEui).is_some() {
         Ok(Ok(()))
     } else {
         Ok(Err(LineFault::Missing(Column::DevEui)))
     }
 }
 
-// The change that a line asks for.
+// The change that a row asks for.
 fn listed_change(head: &[Column], row: &StringRecord, usage: ListUse) -> Result<Change, LineFault>
-    ensures { IfOk result (IsListedChange usage) }
+    requires { AllText (fields_of row.now) }
+    ensures { MatchResult result (RowAsksFor usage head.now (fields_of row.now))
+        (IsRowFault usage head.now (fields_of row.now)) }
 {
     if row.len() != head.len() {
         return Err(LineFault::Count);
     }
-    let mut fields = LineValues::NONE;
-    for (column, value) in head.iter().zip(row.into_iter()) {
-        fields = fields.with(*column, value);
-    }
+    let values = LineValues::of_row(head, row);
     match usage {
-        ListUse::Import => Ok(Change::Import(importing_of(&fields)?)),
-        ListUse::Amend => Ok(Change::Amend(amendment_of(&fields)?)),
+        ListUse::Import => Ok(Change::Import(importing_of(&values)?)),
+        ListUse::Amend => Ok(Change::Amend(amendment_of(&values)?)),
     }
 }

@@ -1,9 +1,13 @@
 // What the values of a line ask for.
 ghost use Rattle.std.specs.Prelude.{◌≡◌, ◌≤◌, ℕ, Option, MatchResult};
 ghost use Rattle.std.specs.Fmt.{decimal};
-ghost use Rattle.device_lists.specs.Values.{HasRest, IsAmendmentOf, IsGiven, IsGivenOr, IsIn};
-ghost use Rattle.device_lists.specs.Values.{IsImportOf, IsNonceChange, MayBeGiven};
-ghost use Rattle.device_lists.specs.Values.{text_in};
+ghost use Rattle.std.specs.Prelude.{⊤, Bool, IfErr};
+ghost use Rattle.device_lists.specs.declared.column.Column.TheVariants.{LastDevNonce};
+ghost use Rattle.device_lists.specs.declared.reading.ListUse.TheVariants.{Import, Amend};
+ghost use Rattle.device_lists.specs.Values.{HasRest, IsAmendmentOf, IsDevNonce, IsGiven, IsGivenOr};
+ghost use Rattle.device_lists.specs.Values.{IsImportOf, IsIn, IsMissingOrWrong, IsNonceChange};
+ghost use Rattle.device_lists.specs.Values.{IsValuesFault, IsWrong, MayBeGiven, text_in};
+ghost use Rattle.device_lists.specs.Values.{yes_or_no};
 
 use crate::{Column, LineFault, LineValues};
 use device_changes::{Amendment, Importing, LastJoinNonce};
@@ -14,13 +18,14 @@ use lw_types::FromText;
 /// or is none of its column. Offset and Delay are 0 and 1 if they are missing, and the last nonces
 /// are none and 0.
 pub fn importing_of(fields: &LineValues<'_>) -> Result<Importing, LineFault>
-    ensures { MatchResult result (λ i. IsImportOf fields.now i)
+    ensures value { MatchResult result (λ i. IsImportOf fields.now i)
         (λ _. (i : Importing) → ¬ (IsImportOf fields.now i)) }
+    ensures why { IfErr result (IsValuesFault Import fields.now) }
 {
     let dev_eui = given(Column::DevEui, fields.dev_eui)?;
     let join_eui = given(Column::JoinEui, fields.join_eui)?;
     let app_key = given(Column::AppKey, fields.app_key)?;
-    let application: Decimal<0, 15> = given(Column::Application, fields.application)?;
+    let application = needed_number(Column::Application, fields.application)?;
     let rx1_offset = number_or(Column::Offset, fields.offset, usual_offset())?;
     let rx_delay = number_or(Column::Delay, fields.delay, usual_delay())?;
     let last_dev_nonce = may_be_given(Column::LastDevNonce, fields.last_dev_nonce)?;
@@ -31,7 +36,7 @@ pub fn importing_of(fields: &LineValues<'_>) -> Result<Importing, LineFault>
     )?;
     check_rest(fields)?;
     let provisioning = Provisioning {
-        application: application.0,
+        application,
         dev_eui,
         join_eui,
         app_key,
@@ -66,8 +71,9 @@ fn no_join_nonce() -> LastJoinNonce
 /// The amendment that a line asks for: what is missing stays as it is. Refused exactly if it asks
 /// for none, because there is no DevEUI, or because a value is none of its column.
 pub fn amendment_of(fields: &LineValues<'_>) -> Result<Amendment, LineFault>
-    ensures { MatchResult result (λ a. IsAmendmentOf fields.now a)
+    ensures value { MatchResult result (λ a. IsAmendmentOf fields.now a)
         (λ _. (a : Amendment) → ¬ (IsAmendmentOf fields.now a)) }
+    ensures why { IfErr result (IsValuesFault Amend fields.now) }
 {
     let dev_eui = given(Column::DevEui, fields.dev_eui)?;
     let app_key = may_be_given(Column::AppKey, fields.app_key)?;
@@ -125,8 +131,10 @@ impl FromText for YesOrNo {
 
 // A value that is needed.
 fn given<T: FromText + Copy>(column: Column, field: Option<&str>) -> Result<T, LineFault>
-    ensures { MatchResult result (λ x. IsGiven T.is_value T.text_of (text_in field.entry) x)
+    ensures value { MatchResult result (λ x. IsGiven T.is_value T.text_of (text_in field.entry) x)
         (λ _. (x : T) → ¬ (IsGiven T.is_value T.text_of (text_in field.entry) x)) }
+    ensures why { IfErr result (IsMissingOrWrong column (text_in field.entry)
+        ((x : T) × IsGiven T.is_value T.text_of (text_in field.entry) x)) }
 {
     let Some(text) = field else {
         return Err(LineFault::Missing(column));
@@ -143,8 +151,10 @@ fn may_be_given<T: FromText + Copy>(
     column: Column,
     field: Option<&str>,
 ) -> Result<Option<T>, LineFault>
-    ensures { MatchResult result (λ x. MayBeGiven T.is_value T.text_of (text_in field.entry) x)
+    ensures value { MatchResult result (λ x. MayBeGiven T.is_value T.text_of (text_in field.entry) x)
         (λ _. (x : Option T) → ¬ (MayBeGiven T.is_value T.text_of (text_in field.entry) x)) }
+    ensures why { IfErr result (IsWrong column (text_in field.entry)
+        ((x : T) × IsGiven T.is_value T.text_of (text_in field.entry) x)) }
 {
     let Some(text) = field else {
         return Ok(None);
@@ -158,19 +168,54 @@ fn may_be_given<T: FromText + Copy>(
     }
 }
 
+// A number that is needed.
+fn needed_number<const LEAST: u64, const MOST: u64>(
+    column: Column,
+    field: Option<&str>,
+) -> Result<Ranged<LEAST, MOST>, LineFault>
+    ensures value { MatchResult result
+        (λ x. IsGiven (IsIn LEAST MOST) decimal (text_in field.entry) x)
+        (λ _. (x : ℕ) → ¬ (IsGiven (IsIn LEAST MOST) decimal (text_in field.entry) x)) }
+    ensures why { IfErr result (IsMissingOrWrong column (text_in field.entry)
+        ((n : ℕ) × IsGiven (IsIn LEAST MOST) decimal (text_in field.entry) n)) }
+{
+    match given::<Decimal<LEAST, MOST>>(column, field) {
+        Ok(number) => Ok(number.0),
+        Err(fault) => Err(fault),
+    }
+}
+
 // A number that may be missing.
 fn number<const LEAST: u64, const MOST: u64>(
     column: Column,
     field: Option<&str>,
 ) -> Result<Option<Ranged<LEAST, MOST>>, LineFault>
-    ensures { MatchResult result
+    ensures value { MatchResult result
         (λ x. MayBeGiven (IsIn LEAST MOST) decimal (text_in field.entry) x)
-        (λ _. (x : Option ℕ) → ¬ (MayBeGiven (IsIn LEAST MOST) decimal (text_in field.entry) x)) }
+        (λ _. (x : Option ℕ)
+        → ¬ (MayBeGiven (IsIn LEAST MOST) decimal (text_in field.entry) x)) }
+    ensures why { IfErr result (IsWrong column (text_in field.entry)
+        ((n : ℕ) × IsGiven (IsIn LEAST MOST) decimal (text_in field.entry) n)) }
 {
-    let found: Option<Decimal<LEAST, MOST>> = may_be_given(column, field)?;
-    match found {
-        Some(number) => Ok(Some(number.0)),
-        None => Ok(None),
+    match may_be_given::<Decimal<LEAST, MOST>>(column, field) {
+        Ok(Some(number)) => Ok(Some(number.0)),
+        Ok(None) => Ok(None),
+        Err(fault) => Err(fault),
+    }
+}
+
+// An answer that may be missing.
+fn answer(column: Column, field: Option<&str>) -> Result<Option<bool>, LineFault>
+    ensures value { MatchResult result
+        (λ x. MayBeGiven (λ _. ⊤) yes_or_no (text_in field.entry) x)
+        (λ _. (x : Option Bool) → ¬ (MayBeGiven (λ _. ⊤) yes_or_no (text_in field.entry) x)) }
+    ensures why { IfErr result (IsWrong column (text_in field.entry)
+        ((b : Bool) × IsGiven (λ _. ⊤) yes_or_no (text_in field.entry) b)) }
+{
+    match may_be_given::<YesOrNo>(column, field) {
+        Ok(Some(answer)) => Ok(Some(answer.0)),
+        Ok(None) => Ok(None),
+        Err(fault) => Err(fault),
     }
 }
 
@@ -180,10 +225,12 @@ fn number_or<const LEAST: u64, const MOST: u64>(
     field: Option<&str>,
     default: Ranged<LEAST, MOST>,
 ) -> Result<Ranged<LEAST, MOST>, LineFault>
-    ensures { MatchResult result
+    ensures value { MatchResult result
         (λ x. IsGivenOr (IsIn LEAST MOST) decimal default.entry (text_in field.entry) x)
         (λ _. (x : ℕ)
         → ¬ (IsGivenOr (IsIn LEAST MOST) decimal default.entry (text_in field.entry) x)) }
+    ensures why { IfErr result (IsWrong column (text_in field.entry)
+        ((n : ℕ) × IsGiven (IsIn LEAST MOST) decimal (text_in field.entry) n)) }
 {
     match number(column, field)? {
         Some(number) => Ok(number),
@@ -193,8 +240,10 @@ fn number_or<const LEAST: u64, const MOST: u64>(
 
 // What happens to the last DevNonce.
 fn nonce_change(field: Option<&str>) -> Result<Option<Option<u16>>, LineFault>
-    ensures { MatchResult result (λ x. IsNonceChange (text_in field.entry) x)
+    ensures value { MatchResult result (λ x. IsNonceChange (text_in field.entry) x)
         (λ _. (x : Option (Option ℕ)) → ¬ (IsNonceChange (text_in field.entry) x)) }
+    ensures why { IfErr result (IsWrong LastDevNonce (text_in field.entry)
+        ((n : ℕ) × IsGiven IsDevNonce decimal (text_in field.entry) n)) }
 {
     if field.is_none() {
         return Ok(None);
@@ -204,12 +253,11 @@ fn nonce_change(field: Option<&str>) -> Result<Option<Option<u16>>, LineFault>
 
 // The values that aren't used must be right, too: a faulty line is likely to be shifted.
 fn check_rest(fields: &LineValues<'_>) -> Result<(), LineFault>
-    ensures { MatchResult result (λ _. HasRest fields.now) (λ _. ¬ (HasRest fields.now)) }
+    ensures value { MatchResult result (λ _. HasRest fields.now) (λ _. ¬ (HasRest fields.now)) }
+    ensures of_import { IfErr result (IsValuesFault Import fields.now) }
+    ensures of_amendment { IfErr result (IsValuesFault Amend fields.now) }
 {
-    let _heard: Option<Decimal<0, 9_223_372_036_854_775_807>> = may_be_given(
-        Column::Heard,
-        fields.heard,
-    )?;
-    let _session: Option<YesOrNo> = may_be_given(Column::Session, fields.session)?;
+    let _heard = number::<0, 9_223_372_036_854_775_807>(Column::Heard, fields.heard)?;
+    let _session = answer(Column::Session, fields.session)?;
     Ok(())
 }

@@ -1,6 +1,6 @@
 // The commands that carry out a mode.
-use crate::{Fault, FinishedLife, control, stores};
-use command_words::Mode;
+use crate::{Fault, FinishedLife, control, edits, stores};
+use command_words::{Edit, Mode};
 use devices::GrantsSince;
 use lw_types::{NetId, Ranged};
 use sessions::Slots;
@@ -100,6 +100,15 @@ pub trait Commands {
         ensures { ends self.old (mode.Restore file.entry new.entry grants above.entry)
             (outcome_with string_bytes result) self.new };
 
+    /// Lists or changes the devices of a store in a file. Returns the list, or what was done.
+    fn edit<R: Files<File = File>>(
+        &mut self,
+        rt: &R,
+        alloc: Global,
+        edit: &Edit<'_>,
+    ) -> Result<String, Fault>
+        ensures { ends self.old (mode.Edit edit.now) (outcome_with string_bytes result) self.new };
+
     /// Records how the life of the server that the mode asks for has ended. No call of this trait
     /// serves it, since no proved thread can be started through a trait. But only a life that was
     /// served gives a [`FinishedLife`].
@@ -190,6 +199,15 @@ impl Commands for ServerCommands {
         };
         let restored = restore(rt, alloc, &request)?;
         Ok(restored.text)
+    }
+
+    fn edit<R: Files<File = File>>(
+        &mut self,
+        rt: &R,
+        alloc: Global,
+        edit: &Edit<'_>,
+    ) -> Result<String, Fault> {
+        edits::edit(rt, alloc, edit)
     }
 
     fn life_ended(&mut self, _mode: &Mode<'_>, _life: &Result<FinishedLife<'_>, Fault>) {}

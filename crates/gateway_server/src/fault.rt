@@ -1,6 +1,8 @@
 // Why a command failed.
 use lnsd_life::ServeFault;
 use lw_types::{Eui, Refusal};
+use std::alloc::AllocError;
+use store_edits::EditFault;
 use store_files::FileFault;
 use thiserror::Error;
 
@@ -43,6 +45,19 @@ pub enum Fault {
     /// This device of an older copy has too few JoinNonces left.
     #[error("refused 10 {0}")]
     Spent(Eui),
+    /// A list can't be read, or lines of it are faulty; or devices can't be retired. The text has a
+    /// line for each.
+    #[error("{0}")]
+    List(String),
+    /// The store has this number of slots already.
+    #[error("slots {0}")]
+    Slots(u64),
+    /// The larger store was made, and the old one may still be open. It must not be served.
+    #[error("not closed")]
+    NotClosed,
+    /// The system has no random numbers.
+    #[error("random")]
+    Random,
     /// The system's clock can't be read.
     #[error("clock")]
     Clock,
@@ -91,5 +106,34 @@ impl From<FileFault> for Fault {
             FileFault::Spent(dev_eui) => Fault::Spent(dev_eui),
             FileFault::Refused(refusal) => Fault::Refused(refusal),
         }
+    }
+}
+
+impl From<EditFault> for Fault {
+    ghost use Rattle.std.specs.Prelude.{◌≡◌};
+    ghost use Rattle.gateway_server.specs.Lives.{fault_of_edit};
+
+    ghost from_gives = { λ edit fault. fault ≡ fault_of_edit edit };
+
+    fn from(fault: EditFault) -> Self {
+        match fault {
+            EditFault::File(fault) => Fault::from(fault),
+            EditFault::List(text) => Fault::List(text),
+            EditFault::NotMore(slots) => Fault::Slots(slots),
+            EditFault::NotClosed => Fault::NotClosed,
+            EditFault::Random => Fault::Random,
+        }
+    }
+}
+
+impl From<AllocError> for Fault {
+    ghost use Rattle.std.specs.Prelude.{◌≡◌};
+    ghost use Rattle.lw_types.specs.declared.refusal.Refusal.TheVariants.{OutOfMemory};
+    ghost use Rattle.gateway_server.specs.declared.fault.Fault.TheVariants.{Refused};
+
+    ghost from_gives = { λ _ fault. fault ≡ Refused OutOfMemory };
+
+    fn from(_error: AllocError) -> Self {
+        Fault::Refused(Refusal::OutOfMemory)
     }
 }

@@ -5,12 +5,13 @@
 mod commands;
 mod control;
 mod descriptors;
+mod edits;
 mod fault;
 mod running;
 mod serving;
 mod stores;
 
-pub use command_words::{Mode, Usage, words};
+pub use command_words::{Edit, Mode, Usage, words};
 pub use commands::{Commands, ServerCommands};
 pub use fault::Fault;
 pub use lnsd_life::{

@@ -171,6 +171,7 @@ where
             above,
         } => tell_outcome(out, commands.restore(rt, alloc, file, new, grants, above)),
         Mode::Status { file, wait } => tell_outcome(out, commands.status(rt, alloc, file, wait)),
+        Mode::Edit(ref edit) => tell_outcome(out, commands.edit(rt, alloc, edit)),
     }
 }
 

@@ -1,4 +1,8 @@
 // Commands that change the devices of a store in a file.
+ghost use Rattle.std.specs.Prelude.{◌≡◌, IfOk, string_bytes};
+ghost use Rattle.device_lists.specs.Export.{csv_text};
+ghost use Rattle.store_edits.specs.Counts.{counts_after, ongoing_in};
+
 use crate::EditFault;
 use crate::changes::{NotChanged, NotGrown, grow_into, store_with_changes};
 use crate::reading::{NEXT_LINE, list_fault, random_key, read_changes};
@@ -36,15 +40,26 @@ pub struct EditCounts {
     pub items_dropped: usize,
 }
 
+/// The store of a file, and the list of its devices.
+#[derive(Drop)]
+pub struct ExportedStore {
+    pub store: Store<ReadOnly<FileDisk>>,
+    pub text: String,
+}
+
 /// The list of the devices of the store in a file. Nothing is written to the file.
 pub fn export_devices<R: Files<File = File>>(
     rt: &R,
     alloc: Global,
     file: &str,
     keys: AppKeys,
-) -> Result<String, EditFault> {
+) -> Result<ExportedStore, EditFault>
+    ensures { IfOk result (λ listed.
+        string_bytes listed.text ≡ csv_text keys listed.store.table.devices) }
+{
     let store = open_for_reading(rt, alloc, file)?;
-    Ok(list_of(alloc, store.table().devices(), keys)?)
+    let text = list_of(alloc, store.table().devices(), keys)?;
+    Ok(ExportedStore { store, text })
 }
 
 /// Brings the devices of a list into the store in a file, with their last nonces and without
@@ -288,7 +303,9 @@ struct Ongoing {
 }
 
 impl Ongoing {
-    fn of(table: &Table) -> Self {
+    fn of(table: &Table) -> Self
+        ensures { result ≡ ongoing_in table.now }
+    {
         let with_session = |device: &&Device| device.activation.current().is_some();
         Ongoing {
             sessions: table.devices().iter().filter(with_session).count(),
@@ -297,7 +314,9 @@ impl Ongoing {
     }
 
     // What a command did whose store had this before, and has this table now.
-    fn counts(self, changed: usize, table: &Table) -> EditCounts {
+    fn counts(self, changed: usize, table: &Table) -> EditCounts
+        ensures { result ≡ counts_after self changed table.now }
+    {
         let now = Ongoing::of(table);
         EditCounts {
             changed,
@@ -309,7 +328,9 @@ impl Ongoing {
     }
 }
 
-fn counts_of(changed: usize, before: &Table, after: &Table) -> EditCounts {
+fn counts_of(changed: usize, before: &Table, after: &Table) -> EditCounts
+    ensures { result ≡ counts_after (ongoing_in before.now) changed after.now }
+{
     Ongoing::of(before).counts(changed, after)
 }
 

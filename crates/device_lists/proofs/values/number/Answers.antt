@@ -1,6 +1,10 @@
-use Rattle.device_lists.proofs.Given.{none_of, on_err}
+use Rattle.device_lists.proofs.Given.{none_of}
 use Rattle.device_lists.proofs.values.number.Goals as goal
 
-pub returns-in_err-found : goal.returns-in_err-found
-returns-in_err-found g c =
-    on_err _ c.from_residual.result _ _ c.from_residual.ensures.1 (none_of c.in_err-found.ensures (λ n. record { 0 = n }) (λ n given. given))
+pub returns-in-Err : goal.returns-in-Err
+returns-in-Err g c =
+    let why = c.in-Err.ensures.why in
+    record {
+      value = none_of c.in-Err.ensures.value (λ n. record { 0 = n }) (λ n given. given);
+      why = (why.0, why.1, λ given. why.2 (record { 0 = given.0 }, given.1));
+    }

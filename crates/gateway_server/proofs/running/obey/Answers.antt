@@ -28,6 +28,12 @@ returns-in-Status g c =
     _ _ g.O.Write.contents _ _ string_bytes _ _ c.in-Status.is tt
     c.status.ensures c.tell_outcome-in-Status.ensures.ok c.tell_outcome-in-Status.ensures.err
 
+pub returns-in-Edit : goal.returns-in-Edit
+returns-in-Edit g c =
+    of_text (λ m o. g.C.Commands.ends c.args.commands.now m o c.edit.new.self)
+    _ _ g.O.Write.contents _ _ string_bytes _ _ c.in-Edit.is tt
+    c.edit.ensures c.tell_outcome-in-Edit.ensures.ok c.tell_outcome-in-Edit.ensures.err
+
 pub returns-in-Format : goal.returns-in-Format
 returns-in-Format g c =
     of_nothing (λ m o. g.C.Commands.ends c.args.commands.now m o c.format.new.self)

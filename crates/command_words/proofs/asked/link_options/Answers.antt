@@ -2,7 +2,7 @@ use Rattle.std.proofs.Common.{rules, ◌∙◌, codes, sym}
 use Rattle.std.proofs.lemmas.Option.{none-some}
 use Rattle.clap.specs.Words.{found_of}
 use Rattle.command_words.proofs.Rows.{text_met, text_missed}
-use Rattle.command_words.proofs.read.link_options.Goals as goal
+use Rattle.command_words.proofs.asked.link_options.Goals as goal
 
 pub returns-clause-some : goal.returns-clause-some
 returns-clause-some c = (

@@ -3,7 +3,7 @@ use Rattle.std.specs.Str.Parse.{ParsesUnsigned, ExplainsUnsignedError, HasUnsign
 use Rattle.clap.specs.Words.{found_of, rows_of}
 use Rattle.command_words.specs.Asked.{IsNumberOf}
 use Rattle.command_words.proofs.Rows.{number_met, number_missed}
-use Rattle.command_words.proofs.read.option_number.Goals as goal
+use Rattle.command_words.proofs.asked.option_number.Goals as goal
 
 pub returns-clause-some : goal.returns-clause-some
 returns-clause-some c =

@@ -1,0 +1,8 @@
+use Rattle.command_words.proofs.line.grow.Goals as goal
+
+pub returns : goal.returns
+returns c =
+    let one = c.file_command-grow.ensures _ c.word-old.ensures.rule in
+    let two = c.with_arg.ensures _ _ one c.word-new.ensures.rule in
+    let three = c.with_arg-2.ensures _ _ two c.slots.ensures.rule in
+    c.with_arg-3.ensures _ _ three c.dry_run.ensures.rule

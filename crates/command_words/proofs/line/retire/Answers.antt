@@ -1,0 +1,7 @@
+use Rattle.command_words.proofs.line.retire.Goals as goal
+
+pub returns : goal.returns
+returns c =
+    let one = c.file_command-retire.ensures _ c.store_file.ensures.rule in
+    let two = c.with_arg.ensures _ _ one c.dev_euis.ensures.rule in
+    c.with_arg-2.ensures _ _ two c.dry_run.ensures.rule

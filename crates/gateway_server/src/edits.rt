@@ -1,0 +1,75 @@
+// Commands for the devices of a store in a file that isn't being served.
+ghost use Rattle.std.specs.Prelude.{◌≡◌, MatchResult, string_bytes};
+ghost use Rattle.gateway_server.specs.Lines.{counts_text};
+
+use crate::Fault;
+use command_words::Edit;
+use lw_types::Refusal;
+use std::alloc::Global;
+use std::fs::File;
+use std::rt::Files;
+use store_edits::{
+    AppKeys, DryRun, EditCounts, amend_devices, export_devices, grow_store, import_as_new,
+    import_devices, retire_devices,
+};
+
+/// Lists or changes the devices of a store, and returns the text to print: the list, or what was
+/// done, in counts.
+pub(crate) fn edit<R: Files<File = File>>(
+    rt: &R,
+    alloc: Global,
+    edit: &Edit<'_>,
+) -> Result<String, Fault> {
+    let counts = match *edit {
+        Edit::Export { file, keys } => {
+            let listed = export_devices(rt, alloc, file, shown(keys))?;
+            return Ok(listed.text);
+        }
+        Edit::Import { csv, file, dry_run } => {
+            import_devices(rt, alloc, csv, file, DryRun(dry_run))?
+        }
+        Edit::ImportAsNew {
+            csv,
+            file,
+            net_id,
+            slots,
+            dry_run,
+        } => import_as_new(rt, alloc, csv, file, net_id, slots, DryRun(dry_run))?,
+        Edit::Amend { file, csv, dry_run } => {
+            amend_devices(rt, alloc, file, csv, DryRun(dry_run))?
+        }
+        Edit::Retire {
+            file,
+            ref dev_euis,
+            dry_run,
+        } => retire_devices(rt, alloc, file, dev_euis.as_slice(), DryRun(dry_run))?,
+        Edit::Grow {
+            file,
+            new,
+            slots,
+            dry_run,
+        } => grow_store(rt, alloc, file, new, slots, DryRun(dry_run))?,
+    };
+    counts_text(alloc, &counts)
+}
+
+fn shown(keys: bool) -> AppKeys {
+    if keys {
+        AppKeys::Shown
+    } else {
+        AppKeys::Hidden
+    }
+}
+
+// What was done, in counts, a line each.
+fn counts_text(alloc: Global, counts: &EditCounts) -> Result<String, Fault>
+    ensures { MatchResult result (λ text. string_bytes text ≡ counts_text counts.now)
+        (λ fault. fault ≡ Fault.Refused Refusal.OutOfMemory) }
+{
+    let (changed, devices, slots) = (counts.changed, counts.devices, counts.slots);
+    let (ended, dropped) = (counts.sessions_ended, counts.items_dropped);
+    let mut text = format!(in alloc; "changed {changed}\ndevices {devices}\nslots {slots}\n")?;
+    let rest = format!(in alloc; "sessions_ended {ended}\nitems_dropped {dropped}\n")?;
+    text.push_str(rest.as_str())?;
+    Ok(text)
+}
