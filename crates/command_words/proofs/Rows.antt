@@ -16,8 +16,8 @@ use Rattle.clap.specs.declared.parser.matches.SubCommand.{SubCommand}
 use Rattle.clap.specs.declared.parser.matches.ArgMatches.TheViews.{out-ArgMatches, out-SubCommand}
 use Rattle.std.specs.Box.{box_value}
 use Rattle.clap.proofs.WalkLemmas.{first_value-rows, one_text-rows, raw_values-rows}
-use Rattle.command_words.specs.Asked.{AreSlots, AsksForNone, HasEditOptions, HasLinkOptions, HasNewStore, HasNoMode, HasNoNewStore, HasOptions, IsAsked}
-use Rattle.command_words.specs.Asked.{IsEditInRange, IsEui, IsFlagOf, IsInRange, IsModeOf, IsNumberOf}
+use Rattle.command_words.specs.Asked.{AreSlots, AsksForNone, HasEditOptions, HasLinkOptions, HasNewStore, HasNoMode, HasNoNewStore, HasOptions, AsksForMode}
+use Rattle.command_words.specs.Asked.{IsEditInRange, FitsEui, IsFlagOf, IsInRange, IsModeOf, IsNumberOf}
 use Rattle.command_words.specs.Asked.{command_word, edit_word, mode_file}
 use Rattle.command_words.specs.declared.mode.Edit.{Edit}
 use Rattle.command_words.specs.declared.mode.Edit.TheVariants as edit
@@ -71,22 +71,22 @@ text_missed f id e = sym (first_value-rows f id) ∙ sym e
 
 -- a command that was met asks for the mode of its word and rows
 pub mode_met : (asked : Option (Text × List Row)) (word : Text) (rows : List Row) (r : Option Mode) → asked ≡ Some (word, rows)
-    → MatchOption r (AsksForNone word rows) (IsAsked word rows) → MatchOption r (HasNoMode asked) (IsModeOf asked)
+    → MatchOption r (AsksForNone word rows) (AsksForMode word rows) → MatchOption r (HasNoMode asked) (IsModeOf asked)
 mode_met asked word rows (Some m) e is = (word, rows, e, is)
 mode_met asked word rows None e never = λ m fits h.
     let both : (word, rows) ≡ (h.0, h.1) = same _ _ (sym e ∙ h.2) in
-    never m fits (subst (λ (p : Text × List Row). IsAsked p.0 p.1 m) (sym both) h.3)
+    never m fits (subst (λ (p : Text × List Row). AsksForMode p.0 p.1 m) (sym both) h.3)
 
 -- a command asks for no mode
 pub missed : (word : Text) (rows : List Row) (r : Option Mode) → r ≡ None → AsksForNone word rows
-    → MatchOption r (AsksForNone word rows) (IsAsked word rows)
+    → MatchOption r (AsksForNone word rows) (AsksForMode word rows)
 missed word rows None e none = none
 missed word rows (Some m) e none = absurd (none-some m (sym e))
 
 -- the same of a word that is known
 pub word_met : (name word : Text) (rows : List Row) (r : Option Mode) → name ≡ word
-    → MatchOption r (AsksForNone word rows) (IsAsked word rows) → MatchOption r (AsksForNone name rows) (IsAsked name rows)
-word_met name word rows r is = subst (λ w. MatchOption r (AsksForNone w rows) (IsAsked w rows)) (sym is)
+    → MatchOption r (AsksForNone word rows) (AsksForMode word rows) → MatchOption r (AsksForNone name rows) (AsksForMode name rows)
+word_met name word rows r is = subst (λ w. MatchOption r (AsksForNone w rows) (AsksForMode w rows)) (sym is)
 
 -- a command without a file
 pub no_file : (word : Text) (rows : List Row) → first_of (codes "file") rows ≡ None → AsksForNone word rows
@@ -239,7 +239,7 @@ no_amend rows never = no_edit (codes "amend") rows refl go
     go (edit.Grow file new_file slots dry_run) fits is h = apart (codes "amend") (codes "grow") (λ b. omega (arith, b)) is
 
 -- a `retire` without DevEUIs
-pub no_retire : (rows : List Row) → ((euis : List Eui) → AllByRecursion IsEui euis → all_of (codes "deveui") rows ≡ Some (map eui_text euis) → ⊥) → AsksForNone (codes "retire") rows
+pub no_retire : (rows : List Row) → ((euis : List Eui) → AllByRecursion FitsEui euis → all_of (codes "deveui") rows ≡ Some (map eui_text euis) → ⊥) → AsksForNone (codes "retire") rows
 no_retire rows never = no_edit (codes "retire") rows refl go
   where
     go : (e : Edit) → IsEditInRange e → codes "retire" ≡ edit_word e → HasEditOptions rows e → ⊥
@@ -319,7 +319,7 @@ raw_met f id r e = sym (raw_values-rows f id) ∙ sym e
 
 -- texts of EUIs have an EUI at each place
 pub eui_at : (texts : List (Bor Text)) (euis : List Eui) (i : ℕ) (t : Bor Text) → i < length texts
-    → AllByRecursion IsEui euis → map eui_text euis ≡ map (λ t. t.now) texts → (e : Eui) × IsEui e × (eui_text e ≡ (get_or texts i t).now)
+    → AllByRecursion FitsEui euis → map eui_text euis ≡ map (λ t. t.now) texts → (e : Eui) × FitsEui e × (eui_text e ≡ (get_or texts i t).now)
 eui_at [] euis i t below all same_texts = absurd (omega (arith, below))
 eui_at (first ∷ texts) [] i t below all same_texts = absurd (omega (arith, ap length same_texts))
 eui_at (first ∷ texts) (e ∷ euis) zero t below all same_texts =

@@ -24,8 +24,8 @@ IsNumberOf id rows n = (text : Text) × (one_of id rows ≡ Some text)
     × (digits_value 10 (without_leading_plus text) ≡ n)
 
 -- an EUI has 64 bits
-abbrev pub IsEui : Eui → Type 0
-IsEui eui = eui.0 < 2 ^ 64
+abbrev pub FitsEui : Eui → Type 0
+FitsEui eui = eui.0 < 2 ^ 64
 
 -- where links connect to, and how many there may be
 abbrev pub HasLinkOptions : List Row → Text → ℕ → Type 0
@@ -130,14 +130,14 @@ HasOptions rows (mode.Restore file new_file grants above) =
     × (first_of (codes "above") rows ≡ option_map (λ file. file.now) above)
 
 -- a command of this word asks for it, with these values
-abbrev pub IsAsked : Text → List Row → Mode → Type 0
-IsAsked word rows m = (word ≡ command_word m)
+abbrev pub AsksForMode : Text → List Row → Mode → Type 0
+AsksForMode word rows m = (word ≡ command_word m)
     × (first_of (codes "file") rows ≡ Some (mode_file m)) × HasOptions rows m
 
 -- this is what a command asks for, if there is one
 abbrev pub IsModeOf : Option (Text × List Row) → Mode → Type 0
 IsModeOf asked m =
-    (word : Text) × (rows : List Row) × (asked ≡ Some (word, rows)) × IsAsked word rows m
+    (word : Text) × (rows : List Row) × (asked ≡ Some (word, rows)) × AsksForMode word rows m
 
 -- its numbers are in their ranges
 abbrev pub AreSlots : ℕ → Type 0
@@ -148,7 +148,7 @@ IsEditInRange (edit.Export file keys) = Unit
 IsEditInRange (edit.Import csv file dry_run) = Unit
 IsEditInRange (edit.ImportAsNew csv file net_id slots dry_run) = (net_id < 64) × AreSlots slots
 IsEditInRange (edit.Amend file csv dry_run) = Unit
-IsEditInRange (edit.Retire file dev_euis dry_run) = AllByRecursion IsEui dev_euis.items
+IsEditInRange (edit.Retire file dev_euis dry_run) = AllByRecursion FitsEui dev_euis.items
 IsEditInRange (edit.Grow file new_file slots dry_run) = AreSlots slots
 
 abbrev pub IsInRange : Mode → Type 0
@@ -165,7 +165,7 @@ IsInRange (mode.Restore file new_file grants above) = (1 ≤ grants) × (grants 
 
 -- a command of this word asks for no mode in its ranges
 abbrev pub AsksForNone : Text → List Row → Type 0
-AsksForNone word rows = (m : Mode) → IsInRange m → IsAsked word rows m → ⊥
+AsksForNone word rows = (m : Mode) → IsInRange m → AsksForMode word rows m → ⊥
 
 -- no mode of a command is in its ranges
 abbrev pub HasNoMode : Option (Text × List Row) → Type 0

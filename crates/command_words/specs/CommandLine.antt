@@ -31,12 +31,12 @@ abbrev pub left_out : Rule → Rule
 left_out option = record option { required = false }
 
 -- words of which one is required
-abbrev pub words_of : Text → Rule
-words_of id = record (word id) { action = Some Append }
+abbrev pub several_words : Text → Rule
+several_words id = record (word id) { action = Some Append }
 
 -- an option without a value
-abbrev pub flag : Text → Rule
-flag id = record (new_rule id) { long = Some id; action = Some SetTrue }
+abbrev pub flag_option : Text → Rule
+flag_option id = record (new_rule id) { long = Some id; action = Some SetTrue }
 
 -- the number of slots of a store
 abbrev pub slots_option : Rule
@@ -78,24 +78,24 @@ restore_line = with_rule (with_rule (with_rule (with_rule (new_app (codes "resto
 
 abbrev pub export_line : App
 export_line = with_rule (with_rule (new_app (codes "export")) (word (codes "file")))
-    (flag (codes "keys"))
+    (flag_option (codes "keys"))
 
 abbrev pub import_line : App
 import_line = with_rule (with_rule (with_rule (with_rule (with_rule (new_app (codes "import"))
     (word (codes "csv"))) (word (codes "file"))) (left_out (option (codes "netid"))))
-    (left_out slots_option)) (flag (codes "dry-run"))
+    (left_out slots_option)) (flag_option (codes "dry-run"))
 
 abbrev pub amend_line : App
 amend_line = with_rule (with_rule (with_rule (new_app (codes "amend"))
-    (word (codes "file"))) (word (codes "csv"))) (flag (codes "dry-run"))
+    (word (codes "file"))) (word (codes "csv"))) (flag_option (codes "dry-run"))
 
 abbrev pub retire_line : App
 retire_line = with_rule (with_rule (with_rule (new_app (codes "retire"))
-    (word (codes "file"))) (words_of (codes "deveui"))) (flag (codes "dry-run"))
+    (word (codes "file"))) (several_words (codes "deveui"))) (flag_option (codes "dry-run"))
 
 abbrev pub grow_line : App
 grow_line = with_rule (with_rule (with_rule (with_rule (new_app (codes "grow"))
-    (word (codes "file"))) (word (codes "new"))) slots_option) (flag (codes "dry-run"))
+    (word (codes "file"))) (word (codes "new"))) slots_option) (flag_option (codes "dry-run"))
 
 -- `lnsd` without the name of the program, before its commands
 abbrev pub top_line : App

@@ -8,7 +8,7 @@ ghost use Rattle.lw_types.specs.Hex.{eui_text};
 ghost use Rattle.lw_types.specs.declared.identifiers.Eui.{Eui};
 ghost use Rattle.command_words.specs.Asked.{AreSlots, AsksForNone, HasLinkOptions, HasNewStore};
 ghost use Rattle.command_words.specs.Asked.{HasNoNewStore};
-ghost use Rattle.command_words.specs.Asked.{IsAsked, IsDryRun, IsEui, IsFlagOf, IsNumberOf};
+ghost use Rattle.command_words.specs.Asked.{AsksForMode, IsDryRun, FitsEui, IsFlagOf, IsNumberOf};
 
 use crate::mode::{Edit, Mode};
 use clap::ArgMatches;
@@ -26,7 +26,7 @@ pub(crate) fn asked_mode<'a>(
     requires { first_of (codes "file") (rows_of (found_of matches.now)) ≡ Some file.now }
     ensures { IfOk result (λ asked. MatchOption asked
         (AsksForNone name.now (rows_of (found_of matches.now)))
-        (IsAsked name.now (rows_of (found_of matches.now)))) }
+        (AsksForMode name.now (rows_of (found_of matches.now)))) }
 {
     match name {
         "format" => Ok(format_mode(file, matches)),
@@ -50,9 +50,9 @@ pub(crate) fn asked_mode<'a>(
 fn format_mode<'a>(file: &'a str, matches: &ArgMatches<'a>) -> Option<Mode<'a>>
     requires { first_of (codes "file") (rows_of (found_of matches.now)) ≡ Some file.now }
     ensures { MatchOption result (AsksForNone (codes "format") (rows_of (found_of matches.now)))
-        (IsAsked (codes "format") (rows_of (found_of matches.now))) }
+        (AsksForMode (codes "format") (rows_of (found_of matches.now))) }
 {
-    let (net_id, slots) = new_store(matches)?;
+    let (net_id, slots) = new_store_options(matches)?;
     Some(Mode::Format {
         file,
         net_id,
@@ -63,7 +63,7 @@ fn format_mode<'a>(file: &'a str, matches: &ArgMatches<'a>) -> Option<Mode<'a>>
 fn serve_mode<'a>(file: &'a str, matches: &ArgMatches<'a>) -> Option<Mode<'a>>
     requires { first_of (codes "file") (rows_of (found_of matches.now)) ≡ Some file.now }
     ensures { MatchOption result (AsksForNone (codes "serve") (rows_of (found_of matches.now)))
-        (IsAsked (codes "serve") (rows_of (found_of matches.now))) }
+        (AsksForMode (codes "serve") (rows_of (found_of matches.now))) }
 {
     let (listen, links) = link_options(matches)?;
     let links = Ranged::new(links)?;
@@ -77,7 +77,7 @@ fn serve_mode<'a>(file: &'a str, matches: &ArgMatches<'a>) -> Option<Mode<'a>>
 fn run_mode<'a>(file: &'a str, matches: &ArgMatches<'a>) -> Option<Mode<'a>>
     requires { first_of (codes "file") (rows_of (found_of matches.now)) ≡ Some file.now }
     ensures { MatchOption result (AsksForNone (codes "run") (rows_of (found_of matches.now)))
-        (IsAsked (codes "run") (rows_of (found_of matches.now))) }
+        (AsksForMode (codes "run") (rows_of (found_of matches.now))) }
 {
     let (listen, links) = link_options(matches)?;
     let links = Ranged::new(links)?;
@@ -91,7 +91,7 @@ fn run_mode<'a>(file: &'a str, matches: &ArgMatches<'a>) -> Option<Mode<'a>>
 fn status_mode<'a>(file: &'a str, matches: &ArgMatches<'a>) -> Option<Mode<'a>>
     requires { first_of (codes "file") (rows_of (found_of matches.now)) ≡ Some file.now }
     ensures { MatchOption result (AsksForNone (codes "status") (rows_of (found_of matches.now)))
-        (IsAsked (codes "status") (rows_of (found_of matches.now))) }
+        (AsksForMode (codes "status") (rows_of (found_of matches.now))) }
 {
     let wait = Ranged::new(option_number(matches, "wait")?)?;
     Some(Mode::Status { file, wait })
@@ -100,7 +100,7 @@ fn status_mode<'a>(file: &'a str, matches: &ArgMatches<'a>) -> Option<Mode<'a>>
 fn restore_mode<'a>(file: &'a str, matches: &ArgMatches<'a>) -> Option<Mode<'a>>
     requires { first_of (codes "file") (rows_of (found_of matches.now)) ≡ Some file.now }
     ensures { MatchOption result (AsksForNone (codes "restore") (rows_of (found_of matches.now)))
-        (IsAsked (codes "restore") (rows_of (found_of matches.now))) }
+        (AsksForMode (codes "restore") (rows_of (found_of matches.now))) }
 {
     let new = matches.get_str("new")?;
     let grants = Ranged::new(option_number(matches, "grants")?)?;
@@ -115,23 +115,23 @@ fn restore_mode<'a>(file: &'a str, matches: &ArgMatches<'a>) -> Option<Mode<'a>>
 
 fn export_mode<'a>(file: &'a str, matches: &ArgMatches<'a>) -> Mode<'a>
     requires { first_of (codes "file") (rows_of (found_of matches.now)) ≡ Some file.now }
-    ensures { IsAsked (codes "export") (rows_of (found_of matches.now)) result }
+    ensures { AsksForMode (codes "export") (rows_of (found_of matches.now)) result }
 {
-    let keys = flag(matches, "keys");
+    let keys = is_given(matches, "keys");
     Mode::Edit(Edit::Export { file, keys })
 }
 
 fn import_mode<'a>(file: &'a str, matches: &ArgMatches<'a>) -> Option<Mode<'a>>
     requires { first_of (codes "file") (rows_of (found_of matches.now)) ≡ Some file.now }
     ensures { MatchOption result (AsksForNone (codes "import") (rows_of (found_of matches.now)))
-        (IsAsked (codes "import") (rows_of (found_of matches.now))) }
+        (AsksForMode (codes "import") (rows_of (found_of matches.now))) }
 {
     let csv = matches.get_str("csv")?;
-    let dry_run = flag(matches, "dry-run");
+    let dry_run = is_given(matches, "dry-run");
     if is_without_new_store(matches) {
         return Some(Mode::Edit(Edit::Import { csv, file, dry_run }));
     }
-    let (net_id, slots) = new_store(matches)?;
+    let (net_id, slots) = new_store_options(matches)?;
     Some(Mode::Edit(Edit::ImportAsNew {
         csv,
         file,
@@ -144,10 +144,10 @@ fn import_mode<'a>(file: &'a str, matches: &ArgMatches<'a>) -> Option<Mode<'a>>
 fn amend_mode<'a>(file: &'a str, matches: &ArgMatches<'a>) -> Option<Mode<'a>>
     requires { first_of (codes "file") (rows_of (found_of matches.now)) ≡ Some file.now }
     ensures { MatchOption result (AsksForNone (codes "amend") (rows_of (found_of matches.now)))
-        (IsAsked (codes "amend") (rows_of (found_of matches.now))) }
+        (AsksForMode (codes "amend") (rows_of (found_of matches.now))) }
 {
     let csv = matches.get_str("csv")?;
-    let dry_run = flag(matches, "dry-run");
+    let dry_run = is_given(matches, "dry-run");
     Some(Mode::Edit(Edit::Amend { file, csv, dry_run }))
 }
 
@@ -159,9 +159,9 @@ fn retire_mode<'a>(
     requires { first_of (codes "file") (rows_of (found_of matches.now)) ≡ Some file.now }
     ensures { IfOk result (λ asked. MatchOption asked
         (AsksForNone (codes "retire") (rows_of (found_of matches.now)))
-        (IsAsked (codes "retire") (rows_of (found_of matches.now)))) }
+        (AsksForMode (codes "retire") (rows_of (found_of matches.now)))) }
 {
-    let dry_run = flag(matches, "dry-run");
+    let dry_run = is_given(matches, "dry-run");
     let Some(texts) = matches.get_raw("deveui") else {
         return Ok(None);
     };
@@ -178,11 +178,11 @@ fn retire_mode<'a>(
 fn grow_mode<'a>(file: &'a str, matches: &ArgMatches<'a>) -> Option<Mode<'a>>
     requires { first_of (codes "file") (rows_of (found_of matches.now)) ≡ Some file.now }
     ensures { MatchOption result (AsksForNone (codes "grow") (rows_of (found_of matches.now)))
-        (IsAsked (codes "grow") (rows_of (found_of matches.now))) }
+        (AsksForMode (codes "grow") (rows_of (found_of matches.now))) }
 {
     let new = matches.get_str("new")?;
     let slots = Ranged::new(option_number(matches, "slots")?)?;
-    let dry_run = flag(matches, "dry-run");
+    let dry_run = is_given(matches, "dry-run");
     Some(Mode::Edit(Edit::Grow {
         file,
         new,
@@ -200,7 +200,7 @@ fn is_without_new_store(matches: &ArgMatches<'_>) -> bool
 }
 
 // The network of a new store, and its number of slots.
-fn new_store(matches: &ArgMatches<'_>) -> Option<(NetId, Ranged<1, 4096>)>
+fn new_store_options(matches: &ArgMatches<'_>) -> Option<(NetId, Ranged<1, 4096>)>
     ensures some { IfSome result (λ r. HasNewStore (rows_of (found_of matches.now)) r.0 r.1) }
     ensures none { result ≡ None → (net_id slots : ℕ) → net_id < 64 → AreSlots slots
         → HasNewStore (rows_of (found_of matches.now)) net_id slots → ⊥ }
@@ -231,7 +231,7 @@ fn option_number(matches: &ArgMatches<'_>, id: &str) -> Option<u64>
 }
 
 // Whether an option without a value is given.
-fn flag(matches: &ArgMatches<'_>, id: &str) -> bool
+fn is_given(matches: &ArgMatches<'_>, id: &str) -> bool
     ensures { IsFlagOf id.now (rows_of (found_of matches.now)) result }
 {
     matches.get_flag(id)
@@ -240,7 +240,7 @@ fn flag(matches: &ArgMatches<'_>, id: &str) -> bool
 // The EUIs of texts; `None` if one is no EUI.
 fn euis_of(alloc: Global, texts: &[&str]) -> Result<Option<Vec<Eui>>, AllocError>
     ensures { IfOk result (λ read. MatchOption read
-        ((euis : List Eui) → AllByRecursion IsEui euis
+        ((euis : List Eui) → AllByRecursion FitsEui euis
         → map eui_text euis ≡ map (λ t. t.now) texts.now → ⊥)
         (λ euis. map eui_text euis.items ≡ map (λ t. t.now) texts.now)) }
 {

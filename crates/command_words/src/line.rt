@@ -3,12 +3,12 @@ ghost use Rattle.std.specs.Prelude.{◌≡◌, ◌≤ℤ◌, codes, false, pos};
 ghost use Rattle.clap.specs.Words.{App, Rule, new_app, rule_of, with_rule, with_subcommand};
 ghost use Rattle.clap.specs.declared.builder.value_parser.ValueParser.TheVariants as parsers;
 ghost use Rattle.command_words.specs.CommandLine.{HasLine, IsCommand, amend_line, devices_line};
-ghost use Rattle.command_words.specs.CommandLine.{export_line, flag, format_line, grow_line};
+ghost use Rattle.command_words.specs.CommandLine.{export_line, flag_option, format_line, grow_line};
 ghost use Rattle.command_words.specs.CommandLine.{import_line, left_out, list_line, lnsd_line};
 ghost use Rattle.command_words.specs.CommandLine.{option, or_else, range_option, restore_line};
 ghost use Rattle.command_words.specs.CommandLine.{retire_line, run_line, serve_line, serving_line};
 ghost use Rattle.command_words.specs.CommandLine.{slots_option, status_line, stop_line, top_line};
-ghost use Rattle.command_words.specs.CommandLine.{watch_line, word, words_of};
+ghost use Rattle.command_words.specs.CommandLine.{watch_line, word, several_words};
 
 use clap::builder::ValueParser;
 use clap::{Arg, ArgAction, Command, value_parser};
@@ -102,11 +102,11 @@ Example: a store with room for 1024 devices
 pub(crate) fn lnsd<'a>(alloc: Global) -> Result<Command<'a>, AllocError>
     ensures { HasLine lnsd_line result }
 {
-    let lnsd = with_command(serving_commands(alloc), export(alloc));
+    let lnsd = with_command(serving_commands(alloc), export_command(alloc));
     let lnsd = with_command(lnsd, import_command(alloc));
-    let lnsd = with_command(lnsd, amend(alloc));
-    let lnsd = with_command(lnsd, retire(alloc));
-    with_command(lnsd, grow(alloc))
+    let lnsd = with_command(lnsd, amend_command(alloc));
+    let lnsd = with_command(lnsd, retire_command(alloc));
+    with_command(lnsd, grow_command(alloc))
 }
 
 // The commands for a store that is served, or will be.
@@ -297,11 +297,11 @@ fn restore<'a>(alloc: Global) -> Result<Command<'a>, AllocError>
     with_arg(restore, left_out(above(alloc)))
 }
 
-fn export<'a>(alloc: Global) -> Result<Command<'a>, AllocError>
+fn export_command<'a>(alloc: Global) -> Result<Command<'a>, AllocError>
     ensures { IsCommand export_line result }
 {
     let about = "Prints the devices of a store that isn't being served, as a CSV list";
-    let keys = flag(alloc, "keys", "With the AppKeys of the devices");
+    let keys = flag_option(alloc, "keys", "With the AppKeys of the devices");
     let export = file_command(alloc, "export", about, EXPORT_EXAMPLE, store_file(alloc));
     with_arg(export, keys)
 }
@@ -328,7 +328,7 @@ pub(crate) fn import_command<'a>(alloc: Global) -> Result<Command<'a>, AllocErro
     with_arg(with_arg(import, left_out(slots(alloc))), dry_run(alloc))
 }
 
-fn amend<'a>(alloc: Global) -> Result<Command<'a>, AllocError>
+fn amend_command<'a>(alloc: Global) -> Result<Command<'a>, AllocError>
     ensures { IsCommand amend_line result }
 {
     let about = "Changes devices of a store that isn't being served, as a CSV list says";
@@ -337,7 +337,7 @@ fn amend<'a>(alloc: Global) -> Result<Command<'a>, AllocError>
 }
 
 /// The words of `lnsd retire`.
-pub(crate) fn retire<'a>(alloc: Global) -> Result<Command<'a>, AllocError>
+pub(crate) fn retire_command<'a>(alloc: Global) -> Result<Command<'a>, AllocError>
     ensures { IsCommand retire_line result }
 {
     let about = "Retires devices of a store that isn't being served: they can't join any more";
@@ -345,7 +345,7 @@ pub(crate) fn retire<'a>(alloc: Global) -> Result<Command<'a>, AllocError>
     with_arg(with_arg(retire, dev_euis(alloc)), dry_run(alloc))
 }
 
-fn grow<'a>(alloc: Global) -> Result<Command<'a>, AllocError>
+fn grow_command<'a>(alloc: Global) -> Result<Command<'a>, AllocError>
     ensures { IsCommand grow_line result }
 {
     let about = "Makes a store with more slots in a new file, and closes the old one";
@@ -373,7 +373,7 @@ fn list_file<'a>(alloc: Global) -> Arg<'a>
 }
 
 fn dev_euis<'a>(alloc: Global) -> Arg<'a>
-    ensures rule { rule_of result ≡ words_of (codes "deveui") }
+    ensures rule { rule_of result ≡ several_words (codes "deveui") }
     ensures local { result.global ≡ false }
 {
     word(
@@ -400,10 +400,10 @@ fn slots<'a>(alloc: Global) -> Arg<'a>
 }
 
 fn dry_run<'a>(alloc: Global) -> Arg<'a>
-    ensures rule { rule_of result ≡ flag (codes "dry-run") }
+    ensures rule { rule_of result ≡ flag_option (codes "dry-run") }
     ensures local { result.global ≡ false }
 {
-    flag(
+    flag_option(
         alloc,
         "dry-run",
         "Prints what it would do, and writes nothing",
@@ -411,8 +411,8 @@ fn dry_run<'a>(alloc: Global) -> Arg<'a>
 }
 
 // An option without a value.
-fn flag<'a>(alloc: Global, name: &'a str, help: &'a str) -> Arg<'a>
-    ensures rule { rule_of result ≡ flag name.entry.now }
+fn flag_option<'a>(alloc: Global, name: &'a str, help: &'a str) -> Arg<'a>
+    ensures rule { rule_of result ≡ flag_option name.entry.now }
     ensures local { result.global ≡ false }
 {
     Arg::new(alloc, name)

@@ -5,7 +5,7 @@ ghost use Rattle.command_words.specs.Asked.{AskFor, HasNoMode, IsModeOf, IsToldO
 ghost use Rattle.command_words.specs.CommandLine.{lnsd_line};
 
 use crate::asked::asked_mode;
-use crate::line::{format, import_command, lnsd, retire};
+use crate::line::{format, import_command, lnsd, retire_command};
 use crate::mode::{Mode, Usage};
 use clap::error::ErrorKind;
 use clap::{ArgMatches, Error};
@@ -87,7 +87,7 @@ fn retire_error(alloc: Global) -> Result<Error, AllocError>
     ensures { IfOk result (λ error. kind_of error ≡ ErrorKind.ValueValidation) }
 {
     let message = "invalid value for '<DEVEUI>...': a DevEUI has 16 upper-case hexadecimal digits";
-    let mut command = retire(alloc)?.bin_name("lnsd retire")?;
+    let mut command = retire_command(alloc)?.bin_name("lnsd retire")?;
     command.error(ErrorKind::ValueValidation, message)
 }
 

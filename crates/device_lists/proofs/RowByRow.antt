@@ -3,7 +3,7 @@ use Rattle.std.proofs.Common.{◌≡◌, ◌∙◌, inl, inr, ℕ, List, [], ◌
 use Rattle.std.specs.Prelude.{MatchResult}
 use Rattle.device_changes.specs.declared.change.Change.{Change}
 use Rattle.device_lists.specs.Lists.{AreFaulty, AreLinesOf, AreRead, IsListOf, IsOnly, IsRefusedText, IsRowFault, IsTaken, RowAsksFor}
-use Rattle.device_lists.specs.Columns.{IsHead}
+use Rattle.device_lists.specs.Columns.{IsListHead}
 use Rattle.device_lists.specs.Rows.{AreRows, Numbered}
 use Rattle.device_lists.specs.declared.column.Column.{Column}
 use Rattle.device_lists.specs.declared.fault.FaultyLine.{FaultyLine}
@@ -100,7 +100,7 @@ only_is usage text line wrong OutOfMemory only are = tt
 
 -- all rows were read
 pub all_read : (usage : ListUse) (text : List ℕ) (head : List Column) (first : Numbered) (rows : List Numbered) (reading : Reading)
-    (r : Result DeviceList ListFault) → AreRows text (first ∷ rows) → IsHead first.values head
+    (r : Result DeviceList ListFault) → AreRows text (first ∷ rows) → IsListHead first.values head
     → AreRead usage head rows reading.list.lines.items reading.list.changes.items reading.faults.items
     → MatchResult r (λ list. (list ≡ reading.list) × (reading.faults.items ≡ [])) (AreLinesOf reading.faults.items)
     → MatchResult r (λ list. IsListOf usage text list.lines.items list.changes.items) (IsRefusedText usage text)

@@ -37,7 +37,7 @@ column_form Session = codes "yes or no"
 column_form Name = codes "a text"
 
 -- these values name these columns in turn, each once, with a DevEUI
-pub record IsHead (values : List (List ℕ)) (columns : List Column) : Type 0 where
+pub record IsListHead (values : List (List ℕ)) (columns : List Column) : Type 0 where
   pub named : map column_name columns ≡ values
   pub once : AreDistinct columns
   pub whose : Contains columns DevEui

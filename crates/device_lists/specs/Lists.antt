@@ -19,12 +19,12 @@ use Rattle.device_changes.specs.declared.fault.FaultyRow.{FaultyRow}
 use Rattle.device_changes.specs.declared.fault.RowFault.{RowFault}
 use Rattle.device_changes.specs.declared.fault.RowFault.TheVariants as fault_in_row
 use Rattle.device_lists.specs.declared.reading.ListUse.TheVariants.{Import, Amend}
-use Rattle.device_lists.specs.Columns.{IsHead, IsUnder, column_name}
+use Rattle.device_lists.specs.Columns.{IsListHead, IsUnder, column_name}
 use Rattle.device_lists.specs.Rows.{AreRows, Numbered}
 use Rattle.device_lists.specs.Values.{IsAmendmentOf, IsImportOf, IsValuesFault, text_in}
 
 -- the values of a row under the columns of a head
-pub record IsLine (head : List Column) (values : List (List ℕ)) (f : LineValues) : Type 0 where
+pub record AreUnder (head : List Column) (values : List (List ℕ)) (f : LineValues) : Type 0 where
   pub dev_eui : IsUnder c.DevEui head values (text_in f.dev_eui)
   pub join_eui : IsUnder c.JoinEui head values (text_in f.join_eui)
   pub app_key : IsUnder c.AppKey head values (text_in f.app_key)
@@ -37,28 +37,28 @@ pub record IsLine (head : List Column) (values : List (List ℕ)) (f : LineValue
   pub session : IsUnder c.Session head values (text_in f.session)
 
 -- what the values of a line ask for
-abbrev pub AsksFor : ListUse → LineValues → Change → Type 0
-AsksFor Import f (change.Import i) = IsImportOf f i
-AsksFor Import f (change.Amend a) = ⊥
-AsksFor Import f (change.Retire r) = ⊥
-AsksFor Amend f (change.Import i) = ⊥
-AsksFor Amend f (change.Amend a) = IsAmendmentOf f a
-AsksFor Amend f (change.Retire r) = ⊥
+abbrev pub ValuesAskFor : ListUse → LineValues → Change → Type 0
+ValuesAskFor Import f (change.Import i) = IsImportOf f i
+ValuesAskFor Import f (change.Amend a) = ⊥
+ValuesAskFor Import f (change.Retire r) = ⊥
+ValuesAskFor Amend f (change.Import i) = ⊥
+ValuesAskFor Amend f (change.Amend a) = IsAmendmentOf f a
+ValuesAskFor Amend f (change.Retire r) = ⊥
 
 -- a row under a head asks for a change
 abbrev pub RowAsksFor : ListUse → List Column → List (List ℕ) → Change → Type 0
 RowAsksFor usage head values asked =
     (length values ≡ length head) × AllText values
-    × (f : LineValues) × IsLine head values f × AsksFor usage f asked
+    × (f : LineValues) × AreUnder head values f × ValuesAskFor usage f asked
 
 -- what is wrong with a row under a head
 abbrev pub IsRowFault : ListUse → List Column → List (List ℕ) → LineFault → Type 0
 IsRowFault usage head values fault.Count = length values ≢ length head
 IsRowFault usage head values fault.Text = ¬ (AllText values)
 IsRowFault usage head values (fault.Missing column) =
-    (f : LineValues) × IsLine head values f × IsValuesFault usage f (fault.Missing column)
+    (f : LineValues) × AreUnder head values f × IsValuesFault usage f (fault.Missing column)
 IsRowFault usage head values (fault.Value column) =
-    (f : LineValues) × IsLine head values f × IsValuesFault usage f (fault.Value column)
+    (f : LineValues) × AreUnder head values f × IsValuesFault usage f (fault.Value column)
 IsRowFault usage head values (fault.UnknownColumn place) = ⊥
 IsRowFault usage head values (fault.ColumnTwice column) = ⊥
 IsRowFault usage head values (fault.Row row) = ⊥
@@ -79,7 +79,7 @@ AreRead usage head (row ∷ rows) lines changes faults =
 -- the rows of a text after its head
 abbrev pub HasRows : List ℕ → List Column → List Numbered → Type 0
 HasRows text head rows =
-    (first : Numbered) × AreRows text (first ∷ rows) × IsHead first.values head
+    (first : Numbered) × AreRows text (first ∷ rows) × IsListHead first.values head
 
 -- each row of a text asks for a change
 abbrev pub IsListOf : ListUse → List ℕ → List ℕ → List Change → Type 0

@@ -5,22 +5,22 @@ use Rattle.csv.specs.Machine.{next_record}
 use Rattle.csv.specs.Reading.{default_config, strip_bom}
 use Rattle.csv.specs.Records.{fields_of}
 use Rattle.csv.specs.declared.parser.State.TheVariants.{StartRecord}
-use Rattle.device_lists.specs.declared.rows.Row.{Row}
+use Rattle.device_lists.specs.declared.rows.NumberedRow.{NumberedRow}
 use Rattle.device_lists.specs.declared.rows.Rows.{Rows}
 
 -- it contains no line feed
-abbrev pub IsOneLine : List ℕ → Type 0
-IsOneLine line = All (λ byte. (byte == 10) ≡ false) line
+abbrev pub HasNoLineFeed : List ℕ → Type 0
+HasNoLineFeed line = All (λ byte. (byte == 10) ≡ false) line
 
 -- a line that ends at a line feed, or at the end of the text
-abbrev pub IsSplit : List ℕ → List ℕ → List ℕ → Type 0
-IsSplit text line rest = (text ≡ line ++ 10 ∷ rest) ⊎ ((text ≡ line) × (rest ≡ []))
+abbrev pub SplitsAfterLine : List ℕ → List ℕ → List ℕ → Type 0
+SplitsAfterLine text line rest = (text ≡ line ++ 10 ∷ rest) ⊎ ((text ≡ line) × (rest ≡ []))
 
 -- the lines of a text; a line feed at its end begins no further one
 abbrev pub AreLines : List ℕ → List (List ℕ) → Type 0
 AreLines text [] = text ≡ []
 AreLines text (line ∷ lines) = (rest : List ℕ)
-    × (0 < length text) × IsOneLine line × IsSplit text line rest × AreLines rest lines
+    × (0 < length text) × HasNoLineFeed line × SplitsAfterLine text line rest × AreLines rest lines
 
 -- it begins with the sign of a comment
 abbrev pub is_comment : List ℕ → Bool
@@ -59,7 +59,7 @@ abbrev pub AreRows : List ℕ → List Numbered → Type 0
 AreRows text rows = AreRowsAfter 0 text rows
 
 -- a row is the next one, or there is none
-abbrev pub TakesRow : Rows → Option Row → Rows → Type 0
+abbrev pub TakesRow : Rows → Option NumberedRow → Rows → Type 0
 TakesRow old None new = AreRowsAfter old.line old.rest.now []
 TakesRow old (Some row) new =
     (more : List Numbered) → AreRowsAfter new.line new.rest.now more

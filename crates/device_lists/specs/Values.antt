@@ -132,13 +132,13 @@ IsNeeded Import column =
 IsNeeded Amend column = column ≡ c.DevEui
 
 -- the text under a column is no value of it
-abbrev pub IsWrong : Column → Option (List ℕ) → Type 0 → LineFault → Type 0
-IsWrong column field Given wrong = (wrong ≡ fault.Value column) × (¬ (IsAbsent field)) × ¬ Given
+abbrev pub IsWrongValue : Column → Option (List ℕ) → Type 0 → LineFault → Type 0
+IsWrongValue column field Given wrong = (wrong ≡ fault.Value column) × (¬ (IsAbsent field)) × ¬ Given
 
 -- the same, or there is no text
 abbrev pub IsMissingOrWrong : Column → Option (List ℕ) → Type 0 → LineFault → Type 0
 IsMissingOrWrong column field Given wrong =
-    ((wrong ≡ fault.Missing column) × IsAbsent field) ⊎ IsWrong column field Given wrong
+    ((wrong ≡ fault.Missing column) × IsAbsent field) ⊎ IsWrongValue column field Given wrong
 
 -- what is wrong with the values of a line
 abbrev pub IsValuesFault : ListUse → LineValues → LineFault → Type 0

@@ -2,7 +2,7 @@
 ghost use Rattle.std.specs.Prelude.{◌≡◌, length};
 ghost use Rattle.csv.specs.Records.{fields_of};
 ghost use Rattle.device_lists.specs.Columns.{IsUnder};
-ghost use Rattle.device_lists.specs.Lists.{IsLine};
+ghost use Rattle.device_lists.specs.Lists.{AreUnder};
 ghost use Rattle.device_lists.specs.Values.{text_in};
 
 use crate::Column;
@@ -28,7 +28,7 @@ impl<'a> LineValues<'a> {
     /// The values of a row that has as many as the head has columns.
     pub(crate) fn of_row(head: &[Column], row: &'a StringRecord) -> Self
         requires { length (fields_of row.now) ≡ length head.now }
-        ensures { IsLine head.now (fields_of row.now) result }
+        ensures { AreUnder head.now (fields_of row.now) result }
     {
         LineValues {
             dev_eui: value_under(head, row, Column::DevEui),

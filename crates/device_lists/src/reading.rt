@@ -1,13 +1,13 @@
 // Reading a list.
 ghost use Rattle.std.specs.Prelude.{◌≡◌, ◌≢◌, [], ◌∷◌, IfErr, IfOk, MatchResult, OnOk, map};
 ghost use Rattle.csv.specs.Records.{AllText, fields_of};
-ghost use Rattle.device_lists.specs.Columns.{IsHead};
+ghost use Rattle.device_lists.specs.Columns.{IsListHead};
 ghost use Rattle.device_lists.specs.Lists.{IsHeadFault, IsListOf, IsRefusedText, IsRowFault};
 ghost use Rattle.device_lists.specs.Lists.{AreLinesOf, IsOnly, IsTaken, RowAsksFor, faulty_line};
 ghost use Rattle.device_lists.specs.declared.fault.ListFault.TheVariants.{OutOfMemory};
 
 use crate::column::place_of;
-use crate::rows::{Row, Rows};
+use crate::rows::{NumberedRow, Rows};
 use crate::{Column, FaultyLine, LineFault, LineValues, ListFault, amendment_of, importing_of};
 use csv::StringRecord;
 use device_changes::{Change, FaultyRow};
@@ -45,7 +45,7 @@ pub fn read_list(alloc: Global, text: &[u8], usage: ListUse) -> Result<DeviceLis
         return Err(only_fault(alloc, 1, LineFault::Missing(Column::DevEui)));
     };
     let line = first.line;
-    let head = match head_of(alloc, first)? {
+    let head = match head_columns(alloc, first)? {
         Ok(head) => head,
         Err(fault) => return Err(only_fault(alloc, line, fault)),
     };
@@ -146,9 +146,12 @@ fn only_fault(alloc: Global, line: u64, fault: LineFault) -> ListFault
 }
 
 // The columns that the first row names.
-fn head_of(alloc: Global, row: Row) -> Result<Result<Vec<Column>, LineFault>, AllocError>
+fn head_columns(
+    alloc: Global,
+    row: NumberedRow,
+) -> Result<Result<Vec<Column>, LineFault>, AllocError>
     ensures { IfOk result (λ read. MatchResult read
-        (λ head. IsHead (fields_of row.values) head.items) (IsHeadFault (fields_of row.values))) }
+        (λ head. IsListHead (fields_of row.values) head.items) (IsHeadFault (fields_of row.values))) }
 {
     let Ok(names) = StringRecord::from_byte_record(row.values) else {
         return Ok(Err(LineFault::Text));
@@ -161,7 +164,11 @@ fn head_of(alloc: Global, row: Row) -> Result<Result<Vec<Column>, LineFault>, Al
 }
 
 // A row's line, and the change that the row asks for.
-fn numbered_change(head: &[Column], row: Row, usage: ListUse) -> Result<(u64, Change), FaultyLine>
+fn numbered_change(
+    head: &[Column],
+    row: NumberedRow,
+    usage: ListUse,
+) -> Result<(u64, Change), FaultyLine>
     ensures { MatchResult result
         (λ read. (read.0 ≡ row.line) × RowAsksFor usage head.now (fields_of row.values) read.1)
         (λ faulty. (faulty.line ≡ row.line)
@@ -185,7 +192,7 @@ fn read_columns(
 ) -> Result<Result<(), LineFault>, AllocError>
     requires { head.old.items ≡ [] }
     ensures { IfOk result (λ read. MatchResult read
-        (λ _. IsHead (fields_of names.now) head.new.items) (IsHeadFault (fields_of names.now))) }
+        (λ _. IsListHead (fields_of names.now) head.new.items) (IsHeadFault (fields_of names.now))) }
 {
     while let Some(name) = names.get(head.len()) {
         let Some(column) = Column::of_name(name) else {

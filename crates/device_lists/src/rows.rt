@@ -1,7 +1,7 @@
 // The rows of a list's text.
 ghost use Rattle.std.specs.Prelude.{◌≡◌, ◌+◌, ◌<◌, ◌^◌, IfErr, IfOk, IfSome, length, option_map};
 ghost use Rattle.csv.specs.Records.{fields_of};
-ghost use Rattle.device_lists.specs.Rows.{IsOneLine, IsSplit, TakesRow, is_comment, values_in};
+ghost use Rattle.device_lists.specs.Rows.{HasNoLineFeed, SplitsAfterLine, TakesRow, is_comment, values_in};
 ghost use Rattle.device_lists.specs.declared.fault.ListFault.TheVariants.{OutOfMemory};
 
 use crate::ListFault;
@@ -10,7 +10,7 @@ use std::alloc::Global;
 
 /// The values of a line.
 #[derive(Drop)]
-pub struct Row {
+pub struct NumberedRow {
     /// The number of the line, counted from 1.
     pub line: u64,
     pub values: ByteRecord,
@@ -36,7 +36,7 @@ impl<'a> Rows<'a> {
     }
 
     /// The next row; `None` after the last. Fails only if memory runs out.
-    pub fn next(&mut self, alloc: Global) -> Result<Option<Row>, ListFault>
+    pub fn next(&mut self, alloc: Global) -> Result<Option<NumberedRow>, ListFault>
         requires { self.old.line + length self.old.rest.now < 2 ^ 64 }
         ensures counted { IfOk result (λ _. self.new.line + length self.new.rest.now < 2 ^ 64) }
         ensures shorter { IfOk result (λ next. IfSome next
@@ -45,11 +45,11 @@ impl<'a> Rows<'a> {
         ensures refused { IfErr result (λ fault. fault ≡ OutOfMemory) }
     {
         while !self.rest.is_empty() {
-            let (line, rest) = first_line(self.rest);
+            let (line, rest) = split_line(self.rest);
             self.rest = rest;
             self.line += 1;
             if let Some(values) = values_in(alloc, line)? {
-                return Ok(Some(Row {
+                return Ok(Some(NumberedRow {
                     line: self.line,
                     values,
                 }));
@@ -60,8 +60,8 @@ impl<'a> Rows<'a> {
 }
 
 // The first line of a text, and what is left after it.
-fn first_line(text: &[u8]) -> (&[u8], &[u8])
-    ensures { IsOneLine result.0.now × IsSplit text.now result.0.now result.1.now }
+fn split_line(text: &[u8]) -> (&[u8], &[u8])
+    ensures { HasNoLineFeed result.0.now × SplitsAfterLine text.now result.0.now result.1.now }
 {
     match text.iter().position(|byte| *byte == b'\n') {
         Some(end) => (&text[..end], &text[end + 1..]),

@@ -6,7 +6,7 @@ ghost use Rattle.device_lists.specs.declared.column.Column.TheVariants.{LastDevN
 ghost use Rattle.device_lists.specs.declared.reading.ListUse.TheVariants.{Import, Amend};
 ghost use Rattle.device_lists.specs.Values.{HasRest, IsAmendmentOf, IsDevNonce, IsGiven, IsGivenOr};
 ghost use Rattle.device_lists.specs.Values.{IsImportOf, IsIn, IsMissingOrWrong, IsNonceChange};
-ghost use Rattle.device_lists.specs.Values.{IsValuesFault, IsWrong, MayBeGiven, text_in};
+ghost use Rattle.device_lists.specs.Values.{IsValuesFault, IsWrongValue, MayBeGiven, text_in};
 ghost use Rattle.device_lists.specs.Values.{yes_or_no};
 
 use crate::{Column, LineFault, LineValues};
@@ -153,7 +153,7 @@ fn may_be_given<T: FromText + Copy>(
 ) -> Result<Option<T>, LineFault>
     ensures value { MatchResult result (λ x. MayBeGiven T.is_value T.text_of (text_in field.entry) x)
         (λ _. (x : Option T) → ¬ (MayBeGiven T.is_value T.text_of (text_in field.entry) x)) }
-    ensures why { IfErr result (IsWrong column (text_in field.entry)
+    ensures why { IfErr result (IsWrongValue column (text_in field.entry)
         ((x : T) × IsGiven T.is_value T.text_of (text_in field.entry) x)) }
 {
     let Some(text) = field else {
@@ -194,7 +194,7 @@ fn number<const LEAST: u64, const MOST: u64>(
         (λ x. MayBeGiven (IsIn LEAST MOST) decimal (text_in field.entry) x)
         (λ _. (x : Option ℕ)
         → ¬ (MayBeGiven (IsIn LEAST MOST) decimal (text_in field.entry) x)) }
-    ensures why { IfErr result (IsWrong column (text_in field.entry)
+    ensures why { IfErr result (IsWrongValue column (text_in field.entry)
         ((n : ℕ) × IsGiven (IsIn LEAST MOST) decimal (text_in field.entry) n)) }
 {
     match may_be_given::<Decimal<LEAST, MOST>>(column, field) {
@@ -205,11 +205,11 @@ fn number<const LEAST: u64, const MOST: u64>(
 }
 
 // An answer that may be missing.
-fn answer(column: Column, field: Option<&str>) -> Result<Option<bool>, LineFault>
+fn session_answer(column: Column, field: Option<&str>) -> Result<Option<bool>, LineFault>
     ensures value { MatchResult result
         (λ x. MayBeGiven (λ _. ⊤) yes_or_no (text_in field.entry) x)
         (λ _. (x : Option Bool) → ¬ (MayBeGiven (λ _. ⊤) yes_or_no (text_in field.entry) x)) }
-    ensures why { IfErr result (IsWrong column (text_in field.entry)
+    ensures why { IfErr result (IsWrongValue column (text_in field.entry)
         ((b : Bool) × IsGiven (λ _. ⊤) yes_or_no (text_in field.entry) b)) }
 {
     match may_be_given::<YesOrNo>(column, field) {
@@ -229,7 +229,7 @@ fn number_or<const LEAST: u64, const MOST: u64>(
         (λ x. IsGivenOr (IsIn LEAST MOST) decimal default.entry (text_in field.entry) x)
         (λ _. (x : ℕ)
         → ¬ (IsGivenOr (IsIn LEAST MOST) decimal default.entry (text_in field.entry) x)) }
-    ensures why { IfErr result (IsWrong column (text_in field.entry)
+    ensures why { IfErr result (IsWrongValue column (text_in field.entry)
         ((n : ℕ) × IsGiven (IsIn LEAST MOST) decimal (text_in field.entry) n)) }
 {
     match number(column, field)? {
@@ -242,7 +242,7 @@ fn number_or<const LEAST: u64, const MOST: u64>(
 fn nonce_change(field: Option<&str>) -> Result<Option<Option<u16>>, LineFault>
     ensures value { MatchResult result (λ x. IsNonceChange (text_in field.entry) x)
         (λ _. (x : Option (Option ℕ)) → ¬ (IsNonceChange (text_in field.entry) x)) }
-    ensures why { IfErr result (IsWrong LastDevNonce (text_in field.entry)
+    ensures why { IfErr result (IsWrongValue LastDevNonce (text_in field.entry)
         ((n : ℕ) × IsGiven IsDevNonce decimal (text_in field.entry) n)) }
 {
     if field.is_none() {
@@ -258,6 +258,6 @@ fn check_rest(fields: &LineValues<'_>) -> Result<(), LineFault>
     ensures of_amendment { IfErr result (IsValuesFault Amend fields.now) }
 {
     let _heard = number::<0, 9_223_372_036_854_775_807>(Column::Heard, fields.heard)?;
-    let _session = answer(Column::Session, fields.session)?;
+    let _session = session_answer(Column::Session, fields.session)?;
     Ok(())
 }

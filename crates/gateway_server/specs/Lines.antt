@@ -18,6 +18,7 @@ run_text r =
 -- what was done to the devices of a store
 abbrev pub counts_text : EditCounts → List ℕ
 counts_text c =
-    count_line (codes "changed") c.changed ++ count_line (codes "devices") c.devices
-    ++ count_line (codes "slots") c.slots ++ count_line (codes "sessions_ended") c.sessions_ended
+    (((count_line (codes "changed") c.changed ++ count_line (codes "devices") c.devices)
+    ++ count_line (codes "slots") c.slots)
+    ++ count_line (codes "sessions_ended") c.sessions_ended)
     ++ count_line (codes "items_dropped") c.items_dropped

@@ -1,11 +1,12 @@
 // Commands for the devices of a store in a file that isn't being served.
-ghost use Rattle.std.specs.Prelude.{◌≡◌, MatchResult, string_bytes};
+ghost use Rattle.std.specs.Prelude.{◌≡◌, IfOk, MatchResult, string_bytes};
+ghost use Rattle.lnsd_operator.specs.Counted.{count_line};
 ghost use Rattle.gateway_server.specs.Lines.{counts_text};
 
 use crate::Fault;
 use command_words::Edit;
 use lw_types::Refusal;
-use std::alloc::Global;
+use std::alloc::{AllocError, Global};
 use std::fs::File;
 use std::rt::Files;
 use store_edits::{
@@ -66,10 +67,20 @@ fn counts_text(alloc: Global, counts: &EditCounts) -> Result<String, Fault>
     ensures { MatchResult result (λ text. string_bytes text ≡ counts_text counts.now)
         (λ fault. fault ≡ Fault.Refused Refusal.OutOfMemory) }
 {
-    let (changed, devices, slots) = (counts.changed, counts.devices, counts.slots);
-    let (ended, dropped) = (counts.sessions_ended, counts.items_dropped);
-    let mut text = format!(in alloc; "changed {changed}\ndevices {devices}\nslots {slots}\n")?;
-    let rest = format!(in alloc; "sessions_ended {ended}\nitems_dropped {dropped}\n")?;
-    text.push_str(rest.as_str())?;
+    let mut text = line_of_count(alloc, "changed", counts.changed as u64)?;
+    let devices = line_of_count(alloc, "devices", counts.devices as u64)?;
+    text.push_str(devices.as_str())?;
+    let slots = line_of_count(alloc, "slots", counts.slots)?;
+    text.push_str(slots.as_str())?;
+    let ended = line_of_count(alloc, "sessions_ended", counts.sessions_ended as u64)?;
+    text.push_str(ended.as_str())?;
+    let dropped = line_of_count(alloc, "items_dropped", counts.items_dropped as u64)?;
+    text.push_str(dropped.as_str())?;
     Ok(text)
+}
+
+fn line_of_count(alloc: Global, name: &str, count: u64) -> Result<String, AllocError>
+    ensures { IfOk result (λ text. string_bytes text ≡ count_line name.now count) }
+{
+    format!(in alloc; "{name} {count}\n")
 }

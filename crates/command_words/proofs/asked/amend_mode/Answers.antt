@@ -13,4 +13,4 @@ returns-in_err-csv c =
 pub returns : goal.returns
 returns c =
     let found = found_of c.args.matches.now in
-    (refl, c.requires, (text_met found (codes "csv") c.in_ok-csv.csv.now c.in_ok-csv.ensures, c.flag-dry_run.ensures))
+    (refl, c.requires, (text_met found (codes "csv") c.in_ok-csv.csv.now c.in_ok-csv.ensures, c.is_given-dry_run.ensures))

@@ -7,4 +7,4 @@ pub returns-in_err-net_id : goal.returns-in_err-net_id
 returns-in_err-net_id c =
     let found = found_of c.args.matches.now in
     missed (codes "format") (rows_of found) c.from_residual.result (search rules)
-    (no_format (rows_of found) (λ n s fits range h. c.new_store.ensures.none c.in_err-net_id.was n s fits range h))
+    (no_format (rows_of found) (λ n s fits range h. c.new_store_options.ensures.none c.in_err-net_id.was n s fits range h))

@@ -21,4 +21,4 @@ pub returns : goal.returns
 returns c =
     let found = found_of c.args.matches.now in
     let slots = subst (λ n. IsNumberOf (codes "slots") (rows_of found) n) (search rules) c.in_ok-option_number.ensures.some in
-    (refl, c.requires, (text_met found (codes "new") c.in_ok-new.new.now c.in_ok-new.ensures, slots, c.flag-dry_run.ensures))
+    (refl, c.requires, (text_met found (codes "new") c.in_ok-new.new.now c.in_ok-new.ensures, slots, c.is_given-dry_run.ensures))

@@ -16,16 +16,16 @@ returns-in_err-net_id c =
     let found = found_of c.args.matches.now in
     missed (codes "import") (rows_of found) c.from_residual-in_err-net_id.result (search rules)
     (no_import (rows_of found) (λ t _ h. c.if-is_without_new_store.ensures h)
-    (λ t n s fits range _ h. c.new_store.ensures.none c.in_err-net_id.was n s fits range h))
+    (λ t n s fits range _ h. c.new_store_options.ensures.none c.in_err-net_id.was n s fits range h))
 
 pub returns-then-is_without_new_store : goal.returns-then-is_without_new_store
 returns-then-is_without_new_store c =
     let found = found_of c.args.matches.now in
     let csv = text_met found (codes "csv") c.in_ok-csv.csv.now c.in_ok-csv.ensures in
-    (refl, c.requires, (csv, c.if-is_without_new_store.ensures, c.flag-dry_run.ensures))
+    (refl, c.requires, (csv, c.if-is_without_new_store.ensures, c.is_given-dry_run.ensures))
 
 pub returns : goal.returns
 returns c =
     let found = found_of c.args.matches.now in
     let csv = text_met found (codes "csv") c.in_ok-csv.csv.now c.in_ok-csv.ensures in
-    (refl, c.requires, (csv, c.in_ok-net_id.ensures.some, c.flag-dry_run.ensures))
+    (refl, c.requires, (csv, c.in_ok-net_id.ensures.some, c.is_given-dry_run.ensures))

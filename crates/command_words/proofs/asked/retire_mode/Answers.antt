@@ -15,7 +15,7 @@ pub returns-in-Some-2 : goal.returns-in-Some-2
 returns-in-Some-2 c =
     let found = found_of c.args.matches.now in
     let given = raw_met found (codes "deveui") c.get_raw.result c.get_raw.ensures in
-    (refl, c.requires, (search rules, c.flag-dry_run.ensures))
+    (refl, c.requires, (search rules, c.is_given-dry_run.ensures))
 
 pub returns-in-None : goal.returns-in-None
 returns-in-None c =

@@ -1,7 +1,7 @@
 use Rattle.std.proofs.Common.{◌≡◌, ◌∷◌, ◌++◌, [], None, inl, inr, rules, subst, sym, append-nil, append_assoc}
 use Rattle.csv.specs.Records.{fields_of}
 use Rattle.device_lists.specs.Rows.{AreRows, Numbered}
-use Rattle.device_lists.specs.Columns.{IsHead}
+use Rattle.device_lists.specs.Columns.{IsListHead}
 use Rattle.device_lists.specs.Lists.{IsHeadFault}
 use Rattle.device_lists.proofs.LineByLine.{from_start, none_taken, row_taken, rows_of}
 use Rattle.device_lists.proofs.RowByRow.{all_read, only_is, read_last}
@@ -21,7 +21,7 @@ pub loop-reading-init : goal.loop-reading-init
 loop-reading-init c =
     let first : Numbered = record { line = c.in-Some.first.line; values = fields_of c.in-Some.first.values } in
     let start = c.of-rows.ensures in
-    let is_head : IsHead (fields_of c.in-Some.first.values) c.in-Ok.head.items = search rules in (
+    let is_head : IsListHead (fields_of c.in-Some.first.values) c.in-Ok.head.items = search rules in (
       c.in_ok-first.ensures.counted,
       first,
       is_head,

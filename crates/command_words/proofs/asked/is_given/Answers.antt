@@ -1,6 +1,6 @@
 use Rattle.clap.specs.Words.{found_of}
 use Rattle.command_words.proofs.Rows.{flag_met}
-use Rattle.command_words.proofs.asked.flag.Goals as goal
+use Rattle.command_words.proofs.asked.is_given.Goals as goal
 
 pub returns : goal.returns
 returns c =

@@ -4,7 +4,7 @@ use Rattle.clap.specs.Words.{found_of, rows_of}
 use Rattle.lw_types.specs.Hex.{net_id_text}
 use Rattle.command_words.specs.Asked.{IsNumberOf}
 use Rattle.command_words.proofs.Rows.{same, text_met, text_missed}
-use Rattle.command_words.proofs.asked.new_store.Goals as goal
+use Rattle.command_words.proofs.asked.new_store_options.Goals as goal
 
 pub returns-in_err-get_str-clause-none : goal.returns-in_err-get_str-clause-none
 returns-in_err-get_str-clause-none c _ n s fits range h =

@@ -1,5 +1,5 @@
 use Rattle.device_lists.proofs.Given.{none_of}
-use Rattle.device_lists.proofs.values.answer.Goals as goal
+use Rattle.device_lists.proofs.values.session_answer.Goals as goal
 
 pub returns-in-Err : goal.returns-in-Err
 returns-in-Err c =

@@ -1,4 +1,4 @@
-use Rattle.command_words.proofs.line.retire.Goals as goal
+use Rattle.command_words.proofs.line.retire_command.Goals as goal
 
 pub returns : goal.returns
 returns c =

@@ -1,4 +1,4 @@
-use Rattle.command_words.proofs.line.amend.Goals as goal
+use Rattle.command_words.proofs.line.amend_command.Goals as goal
 
 pub returns : goal.returns
 returns c =
