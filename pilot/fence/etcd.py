@@ -16,8 +16,9 @@ from bozintar.words import Address, Words
 
 # seconds that a member may take for an answer; then the next one is asked
 PATIENCE = 1.5
-# keys of one answer, and changes of one transaction (etcd takes 128 by default)
-PAGE, MOST_CHANGES = 2000, 100
+# keys of one answer (for each etcd counts all that come after it), and changes of one transaction (etcd
+# takes 128 by default)
+PAGE, MOST_CHANGES = 5000, 100
 # what gRPC calls an error: of a lease that is over, and of a revision that etcd has forgotten
 NOT_FOUND, OUT_OF_RANGE = 5, 11
 MEMBERS_HELP = "where the members of etcd's cluster listen for clients, with commas between them"
