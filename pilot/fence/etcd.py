@@ -16,8 +16,8 @@ from bozintar.words import Address, Words
 
 # seconds that a member may take for an answer; then the next one is asked
 PATIENCE = 1.5
-# keys of one answer (for each etcd counts all that come after it), and changes of one transaction (etcd
-# takes 128 by default)
+# keys of one answer, for each of which etcd counts all that come after; and changes of one
+# transaction (etcd takes 128 by default)
 PAGE, MOST_CHANGES = 5000, 100
 # what gRPC calls an error: of a lease that is over, and of a revision that etcd has forgotten
 NOT_FOUND, OUT_OF_RANGE = 5, 11
