@@ -60,7 +60,7 @@ def event(heard: Heard, eui: str) -> str:
 
 
 def by_fronts(ports: list[int], plan: list[Heard], gateways: int, notes: Notes) -> Other:
-    """What sends uplinks as gateways behind gateway bridges, of which each has all fronts."""
+    """What sends uplinks as gateways whose gateway bridges have all fronts."""
 
     def run(over: Any, count: Any) -> None:
         euis = [load.gateway_eui(BASE + number).lower() for number in range(gateways)]

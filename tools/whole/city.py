@@ -115,7 +115,7 @@ class City:
         await_that("bridges are shown where", lambda: line in read(self.list), LONG)
 
     def serve_first(self, count: int) -> None:
-        """Serves the first stores, so many of them."""
+        """Serves the first stores, this number of them."""
         for at in range(count):
             if at not in self.keepers:
                 self.serve(at, "--adopt")

@@ -63,7 +63,7 @@ class Other:
         self.process = FORK.Process(target=run, args=(*words, self.over, self.count), daemon=True)
 
     def await_count(self, what: str, count: int) -> None:
-        """Waits until it has counted so many of something, for example links."""
+        """Waits until it has counted to this number, for example links."""
         is_so = lambda: self.count.value >= count or not self.process.is_alive()
         await_that(what, is_so, LINKED)
         if not self.process.is_alive():
