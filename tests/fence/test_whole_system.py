@@ -1,6 +1,12 @@
-"""What tools/whole-system computes of a load: what was lost, silences, and its devices' frames."""
+"""What tools/whole-system computes of a load: what was lost, silences, and its devices' frames. And
+the tool itself, small."""
 
+import json
+import os
 import re
+import subprocess
+import sys
+from pathlib import Path
 
 import pytest
 from bozintar import load
@@ -9,6 +15,9 @@ from whole.outcomes import NS, WINDOW, Outcome, longest, share
 from whole.plot import plot, step_of
 from whole.trials import steps
 
+from .clusters import PILOT
+
+SMALL = {"stores": 2, "devices": 8, "gateways": 3, "rate": 20, "seconds": 3, "jobs": 1}
 # moments in seconds, from when on and until when, and the longest silence
 SILENCES: tuple[tuple[tuple[float, ...], float, float, float], ...] = (
     # nothing came before, and then at 2 s
@@ -95,3 +104,19 @@ def test_plot() -> None:
         len(re.findall(r'<rect x="[0-9.]+" y="[0-9.]+" width="[0-9.]+" height', text)) == 2 * 3 + 3
     )
     assert ">350</text>" in text and ">310</text>" in text and ">16</text>" in text
+
+
+@pytest.mark.slow
+def test_small(tmp_path: Path, program: str) -> None:
+    """Two stores with a load, of which nothing is lost. Nothing of the tool stays."""
+    out, room = tmp_path / "out.json", tmp_path / "room"
+    room.mkdir()
+    words = [str(word) for name, number in SMALL.items() for word in (f"--{name}", number)]
+    tool = str(PILOT.parent / "tools/whole-system")
+    said = [sys.executable, tool, "--program", program, "--part", "load", "--out", str(out), *words]
+    env = {**os.environ, "TMPDIR": str(room)}
+    ended = subprocess.run(said, capture_output=True, text=True, env=env, check=False)
+    assert ended.returncode == 0, ended.stdout + ended.stderr
+    found = {row["what"]: row["found"] for row in json.loads(out.read_text())["rows"]}
+    assert [found[name] for name in ("lost", "delivered twice", "wrong lines")] == ["0", "0", "0"]
+    assert not list(room.iterdir())
