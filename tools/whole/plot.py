@@ -31,44 +31,52 @@ def step_of(most: float) -> int:
     return next(step for step in steps if most / step <= 5)
 
 
-def plot(title: str, costs: Sequence[Mapping[str, Any]]) -> str:
-    """The plot as SVG: a bar for each number of stores, with its parts in microseconds."""
-    totals = [sum(cost[name] for name in PARTS) for cost in costs]
-    step = step_of(max(totals))
-    most = step * (int(max(totals) / step) + 1)
-    y_of = lambda value: TOP + HEIGHT - HEIGHT * value / most
-    size = f"{LEFT + WIDTH + RIGHT} {TOP + HEIGHT + FOOT}"
-    lines = [
-        f'<svg xmlns="http://www.w3.org/2000/svg" viewBox="0 0 {size}">',
-        f"<style>{STYLE}\n</style>",
-        f'<rect width="{LEFT + WIDTH + RIGHT}" height="{TOP + HEIGHT + FOOT}" class="back"/>',
-        text(LEFT, 20, title, "start", 'class="title"'),
-    ]
+def axes(most: int, step: int) -> list[str]:
+    """The lines of the grid with their numbers, and the key of the parts."""
+    lines = []
     for value in range(0, most + 1, step):
-        ends = f'x1="{LEFT}" x2="{LEFT + WIDTH}" y1="{y_of(value):.1f}" y2="{y_of(value):.1f}"'
-        lines += [
-            f'<line {ends} class="grid"/>',
-            text(LEFT - 6, y_of(value) + 4, f"{value}", "end"),
-        ]
-    wide = WIDTH / len(costs)
-    for at, (cost, total) in enumerate(zip(costs, totals)):
-        left, below = LEFT + wide * (at + 0.2), 0.0
-        for name, colour in PARTS.items():
-            high = HEIGHT * cost[name] / most
-            box = f'x="{left:.1f}" y="{y_of(below + cost[name]):.1f}" width="{0.6 * wide:.1f}"'
-            lines.append(f'<rect {box} height="{high:.1f}" fill="{colour}"/>')
-            below += cost[name]
-        middle = left + 0.3 * wide
-        lines += [
-            text(middle, y_of(total) - 5, f"{total:.0f}"),
-            text(middle, TOP + HEIGHT + 16, str(cost["stores"])),
-        ]
+        y = TOP + HEIGHT - HEIGHT * value / most
+        ends = f'x1="{LEFT}" x2="{LEFT + WIDTH}" y1="{y:.1f}" y2="{y:.1f}"'
+        lines.append(f'<line {ends} class="grid"/>')
+        lines.append(text(LEFT - 6, y + 4, f"{value}", "end"))
     lines.append(text(LEFT + WIDTH / 2, TOP + HEIGHT + 36, "stores"))
     for at, (name, colour) in enumerate(reversed(PARTS.items())):
         y = TOP + 12 + 18 * at
         box = f'x="{LEFT + WIDTH + 12}" y="{y - 9}" width="10" height="10"'
-        lines += [
-            f'<rect {box} fill="{colour}"/>',
-            text(LEFT + WIDTH + 28, y, name, "start"),
-        ]
+        lines.append(f'<rect {box} fill="{colour}"/>')
+        lines.append(text(LEFT + WIDTH + 28, y, name, "start"))
+    return lines
+
+
+def bar(left: float, wide: float, cost: Mapping[str, Any], most: int) -> list[str]:
+    """A bar, with the sum of its parts above it, and its number of stores below."""
+    lines, below = [], 0.0
+    for name, colour in PARTS.items():
+        high = HEIGHT * cost[name] / most
+        y = TOP + HEIGHT - HEIGHT * below / most - high
+        box = f'x="{left:.1f}" y="{y:.1f}" width="{wide:.1f}" height="{high:.1f}"'
+        lines.append(f'<rect {box} fill="{colour}"/>')
+        below += cost[name]
+    top = TOP + HEIGHT - HEIGHT * below / most
+    lines.append(text(left + wide / 2, top - 5, f"{below:.0f}"))
+    lines.append(text(left + wide / 2, TOP + HEIGHT + 16, str(cost["stores"])))
+    return lines
+
+
+def plot(title: str, costs: Sequence[Mapping[str, Any]]) -> str:
+    """The plot as SVG: a bar for each number of stores, with its parts in microseconds."""
+    largest = max(sum(cost[name] for name in PARTS) for cost in costs)
+    step = step_of(largest)
+    most = step * (int(largest / step) + 1)
+    whole, high = LEFT + WIDTH + RIGHT, TOP + HEIGHT + FOOT
+    lines = [
+        f'<svg xmlns="http://www.w3.org/2000/svg" viewBox="0 0 {whole} {high}">',
+        f"<style>{STYLE}\n</style>",
+        f'<rect width="{whole}" height="{high}" class="back"/>',
+        text(LEFT, 20, title, "start", 'class="title"'),
+        *axes(most, step),
+    ]
+    each = WIDTH / len(costs)
+    for at, cost in enumerate(costs):
+        lines += bar(LEFT + each * (at + 0.2), 0.6 * each, cost, most)
     return "\n".join([*lines, "</svg>", ""])
