@@ -8,7 +8,7 @@ from bozintar.processes import await_that
 
 from . import fleet
 from .city import LONG
-from .trials import EACH, Trial
+from .trials import Trial
 
 REFUSED = 3
 UNKNOWN = "the cluster doesn't know this store: stores add"
@@ -36,8 +36,8 @@ class Files:
 
     def send(self, count: int) -> None:
         """Uplinks of all stores."""
-        stores = self.city.stores
-        with self.trial.load(stores, EACH * stores, count / EACH) as load:
+        stores, each = self.city.stores, self.trial.given.each
+        with self.trial.load(stores, each * stores, count / each) as load:
             load.outcome()
 
     def await_lease(self) -> None:

@@ -17,8 +17,6 @@ from .loads import Notes, Other
 from .outcomes import Outcome, share
 from .table import Table
 
-# uplinks a second of a store, in all parts but the load of all
-EACH = 50
 # by how much an uplink may cost more than with one store, and what is below which, in seconds
 MOST_COST, SERVER_SILENCE, NO_SILENCE = 1.2, 3.0, 0.5
 # how long a load goes on before something is done to the network, and after
@@ -67,14 +65,15 @@ class Trial:
 
     def warm_up(self, stores: int) -> None:
         """Opens the links of all gateways to the first stores."""
-        with self.load(stores, EACH * stores, self.given.gateways / EACH) as load:
+        each = self.given.each
+        with self.load(stores, each * stores, self.given.gateways / each) as load:
             load.outcome()
 
     def after(self, seconds: float, do: Callable[[], Any]) -> tuple[Outcome, int]:
         """Does something while all stores have a load, which goes on for these seconds; what became
         of the load, and the moment at which it was done."""
         stores = self.city.stores
-        with self.load(stores, EACH * stores, BEFORE + seconds) as load:
+        with self.load(stores, self.given.each * stores, BEFORE + seconds) as load:
             time.sleep(BEFORE)
             begun = time.monotonic_ns()
             do()
@@ -94,7 +93,7 @@ def cost_of(trial: Trial, stores: int) -> dict[str, float]:
     trial.city.serve_first(stores)
     trial.warm_up(stores)
     before = trial.city.processors()
-    with trial.load(stores, EACH * stores, trial.given.cost_seconds) as load:
+    with trial.load(stores, trial.given.each * stores, trial.given.cost_seconds) as load:
         outcome = load.outcome()
     after, count = trial.city.processors(), len(outcome.came)
     waits = outcome.waits()
@@ -115,7 +114,7 @@ def cost(trial: Trial) -> None:
         text = f"{each:.0f} µs: {parts}; and etcd {found['etcd']:.0f}"
         due = f"at most {MOST_COST} times that of one"
         is_right = each <= MOST_COST * first
-        what = f"an uplink, stores: {stores}, of each {EACH} a second"
+        what = f"an uplink, stores: {stores}, of each {trial.given.each} a second"
         table.add(what, text, due if stores > 1 else "", is_right if stores > 1 else None)
         lost = ", ".join(f"{name} {found[name]}" for name in ("sent", "lost", "twice", "wrong"))
         table.add("  of these", f"{lost}; median {found['median']:.1f}, 99th {found['p99']:.1f} ms")
