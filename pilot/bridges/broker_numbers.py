@@ -7,6 +7,7 @@ from typing import Any
 
 from bozintar import mqtt
 from bozintar.broker import Access
+from bozintar.words import Address
 
 # how long the broker may take, in seconds
 PATIENCE = 3.0
@@ -46,18 +47,18 @@ BY_TOPIC = {number.topic: number for number in NUMBERS}
 
 
 class Asked:
-    """One connection, on which the broker sends its numbers at once, since they are retained."""
+    """One connection, on which the broker sends its numbers at once, since they are retained. Of
+    several nodes the first one that answers is asked."""
 
     def __init__(self, access: Access):
         self.access, self.found = access, dict[Number, float]()
-        self.has_all = threading.Event()
-        self.client = mqtt.client("")
-        self.client.on_connect = self.on_connect
-        self.client.on_message = self.on_message
+        self.has_answered, self.has_all = threading.Event(), threading.Event()
 
-    def on_connect(self, client: Any, *_: Any) -> None:
-        """Asks for the topics."""
-        client.subscribe([(topic, 0) for topic in BY_TOPIC])
+    def on_connect(self, client: Any, _data: Any, _flags: Any, code: int) -> None:
+        """Asks for the topics, if the broker takes this client."""
+        if not code:
+            self.has_answered.set()
+            client.subscribe([(topic, 0) for topic in BY_TOPIC])
 
     def on_message(self, _client: Any, _data: Any, message: Any) -> None:
         """A number."""
@@ -70,16 +71,25 @@ class Asked:
                 self.has_all.set()
 
     def ask(self) -> dict[Number, float]:
-        """The numbers; none if the broker isn't there, or doesn't say them."""
-        at = self.access
+        """The numbers; none if no node is there, or the one that is doesn't say them."""
+        for address in self.access.addresses:
+            if self.ask_one(address):
+                break
+        return dict(self.found)
+
+    def ask_one(self, address: Address) -> bool:
+        """Asks a node; whether it has answered. One that hangs still takes connections."""
+        at, client = self.access, mqtt.client("")
+        client.on_connect, client.on_message = self.on_connect, self.on_message
         try:
             if at.ca:
-                self.client.tls_set(at.ca, at.certificate, at.key)
-            self.client.connect(at.address.host, at.address.port, keepalive=10)
+                client.tls_set(at.ca, at.certificate, at.key)
+            client.connect(address.host, address.port, keepalive=10)
         except (OSError, ValueError):
-            return {}
-        self.client.loop_start()
-        self.has_all.wait(PATIENCE)
-        self.client.disconnect()
-        self.client.loop_stop()
-        return dict(self.found)
+            return False
+        client.loop_start()
+        if self.has_answered.wait(PATIENCE):
+            self.has_all.wait(PATIENCE)
+        client.disconnect()
+        client.loop_stop()
+        return self.has_answered.is_set()

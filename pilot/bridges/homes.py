@@ -23,6 +23,10 @@ class Homes:
             return None
         return self.routes.devices.get(bytes.fromhex(device))
 
+    def differ(self, claims: dict[str, str | None]) -> bool:
+        """Whether one of these devices is claimed for another store by now."""
+        return any(self.claimed(device) != name for device, name in claims.items())
+
     def of(self, device: str) -> str | None:
         """The name of the store that has a device, if it is known."""
         return self.noted.get(device) or self.claimed(device)

@@ -278,7 +278,9 @@ def add_words(options: words.Words, is_alone: bool = False) -> None:
     """The options about many stores; `is_alone` if there is no other way to the network."""
     options.add_argument("--stores", metavar="FILE", required=is_alone, help=STORES_HELP)
     options.add_argument(
+        "--claims",
         "--devices",
+        dest="devices",
         metavar="FILE",
         help="which store each device is in, a line DEVEUI NAME each, so that a Join-Request goes "
         "to that store alone; without it a Join-Request goes to all stores",

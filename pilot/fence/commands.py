@@ -176,7 +176,7 @@ def where(etcd: Etcd, given: argparse.Namespace) -> int:
 def check(etcd: Etcd, given: argparse.Namespace) -> int:
     """Prints devices that are in two lists, and those that aren't claimed for their store."""
     twice, other, counted, before = 0, 0, 0, dict[str, str]()
-    claims = {name_of(key): value.text for key, value in etcd.all(DEVICE)[0].items()}
+    claims = {name_of(key): value.text for key, value in etcd.all(DEVICE, are_many=True)[0].items()}
     lists: dict[str, list[str] | None] = dict(of_files(given.list))
     if not lists:
         lists = way_of(given).lists(served(etcd))

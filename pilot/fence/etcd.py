@@ -14,10 +14,12 @@ from bozintar.links import refuse_itself
 from bozintar.members import Access, addresses
 from bozintar.words import Address, Words
 
-# seconds that a member may take for an answer; then the next one is asked
-PATIENCE = 1.5
-# keys of one answer, and changes of one transaction (etcd takes 128 by default)
-PAGE, MOST_CHANGES = 2000, 100
+# seconds that a member may take for an answer; then the next one is asked. A page of half a million
+# keys may take longer, since etcd counts all of them
+PATIENCE, PATIENCE_WITH_PAGES = 1.5, 15.0
+# keys of one answer, for each of which etcd counts all that come after; and changes of one
+# transaction (etcd takes 128 by default)
+PAGE, MOST_CHANGES = 5000, 100
 # what gRPC calls an error: of a lease that is over, and of a revision that etcd has forgotten
 NOT_FOUND, OUT_OF_RANGE = 5, 11
 MEMBERS_HELP = "where the members of etcd's cluster listen for clients, with commas between them"
@@ -143,13 +145,13 @@ class Etcd:
 
     # the members
 
-    def ask(self, call: str, body: dict) -> dict:
+    def ask(self, call: str, body: dict, patience: float | None = None) -> dict:
         """The answer of the first member that answers. If an answer is lost, the next member is
         asked the same, so each change has to be one that can be asked for twice."""
         why = ""
         for _ in self.members:
             try:
-                return self.answer(call, body)
+                return self.answer(call, body, patience)
             except (OSError, http.client.HTTPException, ValueError) as fault:
                 why = f"{self.members[0]}: {fault or repr(fault)}"
             self.turn()
@@ -166,10 +168,11 @@ class Etcd:
             self.connection.close()
         self.connection = None
 
-    def answer(self, call: str, body: dict) -> dict:
+    def answer(self, call: str, body: dict, patience: float | None = None) -> dict:
         """The answer of the member that is asked now. A connection that waited for long may be
         closed at its other end: then a new one is made."""
-        if self.connection:
+        if self.connection and self.connection.sock:
+            self.connection.sock.settimeout(patience or self.patience)
             try:
                 return self.answer_on(self.connection, call, body)
             except (ConnectionError, http.client.HTTPException):
@@ -177,6 +180,7 @@ class Etcd:
         member = self.members[0]
         self.connection = http.client.HTTPConnection(member.host, member.port)
         self.connection.sock = connected(member, self.tls, self.patience)
+        self.connection.sock.settimeout(patience or self.patience)
         return self.answer_on(self.connection, call, body)
 
     @staticmethod
@@ -200,15 +204,16 @@ class Etcd:
         asked = [{"requestRange": {"key": shown(key)}} for key in keys]
         return values_in(self.ask("kv/txn", {"success": asked}))
 
-    def all(self, prefix: str) -> tuple[dict[str, Value], int]:
+    def all(self, prefix: str, are_many: bool = False) -> tuple[dict[str, Value], int]:
         """All keys of a prefix, and the revision at which they were so."""
+        patience = PATIENCE_WITH_PAGES if are_many else None
         first, found, revision = prefix, dict[str, Value](), 0
         while True:
             asked: dict[str, Any] = {"key": shown(first), "range_end": shown(end_of(prefix))}
             asked["limit"] = str(PAGE)
             if revision:
                 asked["revision"] = str(revision)
-            answer = self.ask("kv/range", asked)
+            answer = self.ask("kv/range", asked, patience)
             revision = revision or int(answer["header"]["revision"])
             page = values_of(answer)
             found |= page

@@ -80,7 +80,7 @@ class Follower:
         """Reads all, and then what changes."""
         self.lists, seen = Lists(), dict[str, int]()
         for kind in KINDS:
-            found, seen[kind] = self.etcd.all(kind)
+            found, seen[kind] = self.etcd.all(kind, are_many=kind == DEVICE)
             self.lists.take(Change(key, value.text) for key, value in found.items())
         self.due = set(KINDS)
         self.write(is_quiet=True)

@@ -50,17 +50,19 @@ class Link:
 
     def say(self, message: bytes) -> bool:
         """Sends a message; whether there was a link that takes it."""
-        if not self.writer or self.writer.is_closing():
+        if not self.writer:
             return False
-        if self.writer.transport.get_write_buffer_size() > MOST_WAITING:
+        transport = self.writer.transport
+        if transport.is_closing() or transport.get_write_buffer_size() > MOST_WAITING:
             return False
-        self.writer.write(message)
+        transport.write(message)
         return True
 
     def say_soon(self, message: bytes) -> bool:
         """Sends a message now, or as soon as a link takes it, if that isn't long; whether it was
         now. What waits is sent before it, since an older message is of no use after it."""
-        self.catch_up()
+        if self.early:
+            self.catch_up()
         is_said = not self.early and self.say(message)
         if not is_said:
             self.early.append((time.monotonic(), message))

@@ -46,11 +46,6 @@ class Access:
         if given.certificate and not given.ca:
             stop("--certificate needs --ca: TLS is used with it alone", 2)
 
-    @property
-    def address(self) -> Address:
-        """The first member, for what asks once."""
-        return self.addresses[0]
-
     def context(self) -> ssl.SSLContext | None:
         """How a client uses TLS; None if it doesn't. It ends with a line if a file can't be read."""
         if not self.ca:

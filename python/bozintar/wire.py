@@ -147,6 +147,8 @@ class Frames:
 
     def feed(self, piece: bytes) -> list[bytes]:
         """The contents of the messages that this piece completes, in order."""
+        if not self.kept and len(piece) - 2 == int.from_bytes(piece[:2], "big") <= LONGEST:
+            return [piece[2:]]  # nearly always: one whole message
         self.kept += piece
         contents, place = [], 0
         while len(self.kept) >= place + 2:

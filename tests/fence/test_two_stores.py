@@ -1,5 +1,5 @@
-"""Two stores on one machine, as docs/SCALING.md has them set up: by the units of the package, and by
-the drop-ins that lead bridges to many stores. A reading of a device of each comes on MQTT."""
+"""Two stores on one machine, as docs/SCALING.md has them set up: by the units of the package and
+their settings. A reading of a device of each comes on MQTT."""
 
 import os
 import subprocess
@@ -30,6 +30,9 @@ class City:
         self.settings |= {"ETCD": self.cluster.option, "ETCD_WORDS": "", "KEEP_WORDS": ""}
         self.settings["BROKER"] = f"{HOST}:{parts.broker_port}"
         self.settings["UDP"] = f"{HOST}:{parts.udp_port}"
+        self.settings["NETWORK"] = f"{HOST}:{free_port()}"
+        words = self.settings["STORES_WORDS"].replace("/var/lib/", f"{self.state}/")
+        self.settings |= {"STORES_WORDS": words, "GATEWAYS_WORDS": "--names 28"}
         os.mkdir(self.ours)
         parts.file("etc/gateways", f"{GATEWAY}\n")
         rows = [self.printed("play", "--device", "--meter", meter) for meter in (1, 2)]
@@ -46,7 +49,7 @@ class City:
         """A command of `stores`."""
         return self.printed("stores", *words, "--etcd", self.settings["ETCD"])
 
-    def start(self, name: str, instance: str, drop_in: str = "") -> Process:
+    def start(self, name: str, instance: str) -> Process:
         """Starts a unit."""
         names = [name.replace("@", f"-{instance}" if "@" in name else "").partition(".")[0]]
         names += ["bozintar-lists", f"bozintar-ask-{instance}"]
@@ -62,7 +65,7 @@ class City:
             "chgrp bozintar-ask": "test -d",
         }
         settings = self.settings | {"LISTEN": f"{HOST}:{free_port()}"}
-        return started(self.parts, Unit(name, own, settings, drop_in))
+        return started(self.parts, Unit(name, own, settings))
 
     def make_store(self, name: str) -> None:
         """Makes a store, and claims its device."""
@@ -106,8 +109,10 @@ def bridges(city: City) -> None:
     """Starts the bridges, which have the devices added to their stores."""
     name = "bozintar-applications-mqtt@.service"
     instance = str(APPLICATION)
-    applications = city.start(name, instance, "stores-applications-mqtt.conf")
+    applications = city.start(name, instance)
     for store in STORES:
         await_said(applications, f"{store}: 1 devices are there")
-    gateways = city.start("bozintar-gateways-udp.service", "", "stores-gateways-udp.conf")
+    gateways = city.start("bozintar-gateways-udp.service", "")
     await_said(gateways, "listens on")
+    router = city.start("bozintar-router.service", "")
+    await_said(router, f"listens on {city.settings['NETWORK']} for 2 stores")

@@ -18,11 +18,12 @@ from fence.records import STORE
 from .clusters import LONG, NET_ID, PILOT, Cluster, Kept, answers
 from .units import INSTALLED, PACKAGING, Unit, read, settings_of, started, values_of
 
-# the drop-ins that lead bridges to many stores, and the units that they are for
-DROP_INS = {
-    "stores-applications-mqtt.conf": "bozintar-applications-mqtt@.service",
-    "stores-gateways-mqtt.conf": "bozintar-gateways-mqtt.service",
-    "stores-gateways-udp.conf": "bozintar-gateways-udp.service",
+# the units of bridges that reach many stores, and whether each is one of gateways
+BRIDGES = {
+    "bozintar-applications-mqtt@.service": False,
+    "bozintar-gateways-mqtt.service": True,
+    "bozintar-gateways-udp.service": True,
+    "bozintar-router.service": True,
 }
 ADDRESSES = ("10.0.0.1", "10.0.0.2", "10.0.0.3")
 # options, and the files of a certificate and its key
@@ -146,28 +147,58 @@ def test_what_a_store_needs() -> None:
     assert values_of(text, "RestartPreventExitStatus") == ["2 3 4 5"]
 
 
-@pytest.mark.parametrize("name, unit", DROP_INS.items(), ids=list(DROP_INS))
-def test_drop_ins(name: str, unit: str) -> None:
-    """A drop-in runs the program of its unit with the same words, except that it names files of
-    stores and not one server; and the program knows them."""
-    whole = (PACKAGING / "systemd" / unit).read_text(encoding="utf-8")
-    (before,) = values_of(whole, "ExecStart")
-    first, now = values_of((PILOT / name).read_text(encoding="utf-8"), "ExecStart")
-    assert first == ""
-    program, *words = shlex.split(now)
-    assert program == shlex.split(before)[0]
-    gateways, applications = {"--stores", "--devices", "--names"}, {"--stores", "--claims"}
-    of_stores = applications if "applications" in name else gateways
-    options = lambda line: {word for word in shlex.split(line) if word.startswith("--")}
-    assert options(now) - options(before) == of_stores
-    assert options(before) - options(now) == {"--network"}
+def options_in(line: str) -> set[str]:
+    """The options in the words of a command."""
+    return {word for word in shlex.split(line) if word.startswith("--")}
+
+
+@pytest.mark.parametrize("name, is_of_gateways", BRIDGES.items(), ids=list(BRIDGES))
+def test_bridges(name: str, is_of_gateways: bool) -> None:
+    """A unit takes the words about stores from its settings. They are empty by themselves, and its
+    program knows those that the settings propose, for the files that the unit of the lists writes.
+    The unit starts after that one."""
+    text = (PACKAGING / "systemd" / name).read_text(encoding="utf-8")
+    (line,) = values_of(text, "ExecStart")
+    (settings,) = values_of(text, "Environment")
+    proposed = settings_of("bridges.conf")
+    due = ["STORES_WORDS", *["GATEWAYS_WORDS"] * is_of_gateways]
+    assert settings.split() == [f"{key}=" for key in due]
+    assert [word for word in shlex.split(line) if word[1:] in proposed and word[1] != "{"] == [
+        f"${key}" for key in due
+    ]
+    assert "bozintar-follow.service" in " ".join(values_of(text, "After")).split()
     said = subprocess.run(
-        [sys.executable, PILOT / program.removeprefix(INSTALLED), "--help"],
+        [sys.executable, PILOT / shlex.split(line)[0].removeprefix(INSTALLED), "--help"],
         capture_output=True,
         text=True,
         check=True,
     ).stdout
-    assert all(re.search(rf"^  {option} ", said, re.MULTILINE) for option in options(now))
+    for key in due:
+        for option in options_in(proposed[key]):
+            assert re.search(rf"^  ({option} |.*, {option} )", said, re.MULTILINE), option
+    (follow,) = values_of(
+        (PACKAGING / "systemd/bozintar-follow.service").read_text(encoding="utf-8"), "ExecStart"
+    )
+    files = [word for word in shlex.split(proposed["STORES_WORDS"]) if word.startswith("/")]
+    assert len(files) == 2
+    assert all(file.replace("/var/lib", "%S") in shlex.split(follow) for file in files)
+
+
+def test_metrics_of_stores() -> None:
+    """The unit of numbers has one store, or those that its settings name."""
+    text = (PACKAGING / "systemd/bozintar-metrics.service").read_text(encoding="utf-8")
+    (line,) = values_of(text, "ExecStart")
+    assert "$METRICS_STORES" in shlex.split(line)
+    assert values_of(text, "Environment") == ["METRICS_STORES=%S/lnsd/store"]
+    assert text.index("Environment=METRICS") < text.index("EnvironmentFile=")
+    words = shlex.split(settings_of("bridges.conf")["METRICS_STORES"])
+    stores = [word.partition("=") for word in words if word != "--store"]
+    for name, _, file in stores:
+        (state,) = values_of(
+            (PACKAGING / "systemd/bozintar-store@.service").read_text(encoding="utf-8"),
+            "StateDirectory",
+        )
+        assert file == f"/var/lib/{state.replace('%i', name)}/store"
 
 
 def test_setpriv() -> None:

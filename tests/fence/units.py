@@ -24,12 +24,8 @@ def values_of(text: str, key: str) -> list[str]:
 class Unit:
     """A unit of the package, with the places of a trial."""
 
-    def __init__(
-        self, name: str, places: dict[str, str], settings: dict[str, str], drop_in: str = ""
-    ):
+    def __init__(self, name: str, places: dict[str, str], settings: dict[str, str]):
         self.text = (PACKAGING / "systemd" / name).read_text(encoding="utf-8")
-        if drop_in:
-            self.text += (PILOT / drop_in).read_text(encoding="utf-8")
         self.places, self.settings = places, settings
 
     def words(self, key: str) -> list[str]:

@@ -42,7 +42,7 @@ COUNTERS = {
         *("not_sent", "too_many", "unknown_gateways", "closed_soon", "unlinked", "caught_up"),
         *("out_of_time", "wrong_events"),
     ),
-    "pilot_router": ("closed_soon", "unlinked", "caught_up"),
+    "pilot_router": ("closed_soon", "unlinked", "caught_up", "unknown_gateways", "faulted"),
     "pilot_applications_mqtt": ("events_lost", "closed_soon", "wrong_commands"),
     "pilot_readings": ("closed_soon",),
     "pilot_adr": ("closed_soon",),
@@ -52,7 +52,8 @@ COUNTERS = {
 WELL = {
     "lnsd_up": steady(1),
     **{
-        FILE % name: growing(60) for name in ("lnsd", "gateways-udp", "readings-3", "adr-3", "door")
+        FILE % name: growing(60)
+        for name in ("lnsd", "gateways-udp", "router", "readings-3", "adr-3", "door")
     },
     **{
         f"lnsd_{name}_total": steady(7) for name in ("dropped", "taken_over_links", "faulted_links")
@@ -90,6 +91,7 @@ WRONG: tuple = (
     ("LnsdStatusIsOld", {FILE % "lnsd": steady(0)}),
     ("LnsdStatusIsOld", {FILE % "lnsd": NONE}),
     ("BridgeHangs", {FILE % "gateways-udp": steady(0)}),
+    ("BridgeHangs", {FILE % "router": steady(0)}),
     ("BridgeHangs", {FILE % "readings-3": steady(0)}),
     ("BridgeHangs", {FILE % "adr-3": steady(0)}),
     ("BridgeHangs", {FILE % "door": steady(0)}),
@@ -132,6 +134,7 @@ WRONG: tuple = (
     ("WrongMessages", {"pilot_gateways_udp_wrong_datagrams_total": growing(2)}),
     ("WrongMessages", {"pilot_gateways_udp_wrong_addresses_total": growing(2)}),
     ("WrongMessages", {"pilot_gateways_mqtt_wrong_events_total": growing(2)}),
+    ("WrongMessages", {"pilot_router_faulted_total": growing(2)}),
     ("WrongMessages", {"pilot_applications_mqtt_wrong_commands_total": growing(2)}),
     ("ApplicationMissing", {"lnsd_applications": steady(0)}),
     ("LnsdNearlyFull", {"lnsd_devices": steady(4000)}),
@@ -145,6 +148,7 @@ WRONG: tuple = (
     ("GatewaySendsTooMuch", {"pilot_gateways_mqtt_too_many_total": growing(9)}),
     ("UnknownGateways", {"pilot_gateways_udp_unknown_gateways_total": growing(1)}),
     ("UnknownGateways", {"pilot_gateways_mqtt_unknown_gateways_total": growing(1)}),
+    ("UnknownGateways", {"pilot_router_unknown_gateways_total": growing(1)}),
     ("CertificateEnds", {'pilot_certificate_end_seconds{file="server.crt"}': steady(0)}),
     # what was unlinked and handed in soon after that isn't lost
     (

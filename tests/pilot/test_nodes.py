@@ -4,6 +4,7 @@ that know nothing of each other, so that it shows which of them a message came t
 import argparse
 import asyncio
 import json
+import re
 import signal
 import sqlite3
 import time
@@ -18,7 +19,7 @@ from bozintar.members import addresses
 from bozintar.processes import HOST, Process, await_that, command, free_port
 from bozintar.words import Address
 
-from .parts import Parts
+from .parts import Parts, run
 from .rows import table
 
 TOPIC = "trial/said"
@@ -213,3 +214,25 @@ def test_readings(parts: Parts, how: str) -> None:
         assert rows() == [("70B3D57ED0000001", 5)]
     for node in (one, two):
         node.leave()
+
+
+@table("how", [("killed",), ("stopped",)])
+def test_metrics(parts: Parts, how: str) -> None:
+    """`metrics` asks the next node, if the first one is away or hangs."""
+    one, two = Node(parts, "one"), Node(parts, "two")
+    one.process.send_signal(signal.SIGSTOP if how == "stopped" else signal.SIGKILL)
+    # a message that the second node keeps, and the first one doesn't
+    two.client.publish("trial/kept", "kept", qos=1, retain=True).wait_for_publish(LONG)
+    both = f"{one.address},{two.address}"
+    words = (parts.file("no-store"), "--lnsd", "/bin/true", "--broker", both)
+    printed = lambda: run("metrics", *words, timeout=LONG)
+    # mosquitto writes its numbers now and then
+    await_that("the number of the second node", lambda: of_broker(printed()[1]) > 0, LONG, 1)
+    for node in (one, two):
+        node.leave()
+
+
+def of_broker(text: str) -> float:
+    """How many messages a broker keeps, by what `metrics` prints; 0 if it doesn't say that."""
+    found = re.search(r"^pilot_broker_messages (\S+)$", text, re.MULTILINE)
+    return float(found[1]) if found else 0.0

@@ -106,7 +106,8 @@ def applied(parts: Parts, stores: Stores) -> Iterator[Applied]:
 
 def test_devices_are_claimed(applied: Applied) -> None:
     """A device is added to the store that it is claimed for. One that isn't claimed is added when
-    it is. One that another store has isn't added, whatever the claim: no device can move."""
+    it is. If a claim changes, its device is asked for again; one that another store has isn't
+    added, whatever the claim: no device can move."""
     applied.claim(f"{FIRST} d01", f"{SECOND} d00", f"{THIRD} d09")
     rows = "".join(ROW.format(device) for device in (FIRST, SECOND, THIRD, FOURTH))
     file = applied.parts.file("devices.csv", rows)
@@ -120,10 +121,14 @@ def test_devices_are_claimed(applied: Applied) -> None:
         f"{file}, d01: 1 devices are there, 0 aren't",
     ]
     assert applied.serve(texts) == [("d00", SECOND), ("d01", FIRST)]
-    applied.claim(f"{FIRST} d01", f"{SECOND} d00", f"{THIRD} d00")
-    text = f"{file}, d00: 2 devices are there, 0 aren't; 1 were there before"
-    assert applied.serve([text]) == [("d00", THIRD)]
-    applied.claim(f"{FIRST} d00", f"{SECOND} d00", f"{THIRD} d00")
+    rest = (f"{SECOND} d00", f"{THIRD} d00", f"{FOURTH} d01")
+    applied.claim(f"{FIRST} d01", *rest)
+    texts = [
+        f"{file}, {name}: 2 devices are there, 0 aren't; 1 were there before"
+        for name in ("d00", "d01")
+    ]
+    assert applied.serve(texts) == [("d00", THIRD), ("d01", FOURTH)]
+    applied.claim(f"{FIRST} d00", *rest)
     await_that("it is read", lambda: part.said().count("claims is read") == 2)
     text = f"line 1: {FIRST} isn't added to d00: d01 has it, and no device can move"
     assert applied.serve([text]) == []

@@ -27,6 +27,7 @@ BY_TLS = (
     "bozintar-readings@.service",
     "bozintar-store@.service",
     "bozintar-web-console.service",
+    "etcd.service.d/bozintar.conf",
     "mosquitto.service.d/bozintar.conf",
     "stunnel@bozintar.service.d/again.conf",
 )
