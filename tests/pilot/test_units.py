@@ -75,6 +75,11 @@ def test_time(name: str) -> None:
         assert "time-sync.target" in line_of(name, key).split()
 
 
+def test_journal_of_metrics() -> None:
+    """What runs each 15 seconds writes no line to the journal when it begins and ends."""
+    assert line_of("bozintar-metrics.service", "LogLevelMax") == "notice"
+
+
 def shell(name: str, key: str, *changes: tuple[str, str]) -> list[str]:
     """The words of a command of a unit, with other places."""
     line = line_of(name, key).removeprefix("+")
