@@ -23,7 +23,7 @@ MOST_WAITING = 65536
 # what is heard while no link takes it is sent on the first that does, if it is younger, in seconds.
 # So while nobody listens there, tries are no further apart
 LATEST, MOST_EARLY = 2.0, 64
-# a link that lasted so many times longer than the pause before it counts as well, too: two clients
+# a link that lasted this many times as long as the pause before it counts as well, too: two clients
 # of one name end each other's links after a pause
 STEADY = 4
 # a link has no signs of life, so the system asks for them
