@@ -88,6 +88,11 @@ def of_devices(network: Network, now: float) -> Iterator[Problem]:
         what = f"{plural(len(silent), 'device')} silent"
         yield Problem(WARNING, what, why, remedy, "/devices?show=silent")
     devices = list(network.devices.values())
+    if lost := sum(device.is_missed(now) for device in devices):
+        what = f"{plural(lost, 'device')} without a session"
+        why = "After a restore each device has to join again"
+        remedy = "Restart those by hand that don't join by themselves."
+        yield Problem(WARNING, what, why, remedy, "/devices?show=not")
     if low := sum(device.has_low_battery for device in devices):
         what = f"{plural(low, 'device')} with a low battery"
         yield Problem(WARNING, what, "Below 15 %", "Plan a visit.", "/devices?show=battery")

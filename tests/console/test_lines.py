@@ -106,6 +106,7 @@ def test_repeated(console: Console) -> None:
     [
         (listed(1, "70B3D57ED0000002", 0, "-"), "Never joined"),
         (listed(1, "70B3D57ED0000002", 1, "-"), "Join accepted"),
+        (listed(1, "70B3D57ED0000002", 1025, "-", heard=9), "No session"),
         (listed(1, "70B3D57ED0000002", 1, "1"), "Joined"),
         (listed(1, "70B3D57ED0000002", 2, "1"), "Joining again"),
         ("1 70B3D57ED0000002 1 1 5 2 0 6", "Joined"),
@@ -115,9 +116,8 @@ def test_repeated(console: Console) -> None:
 def test_states(console: Console, line: str, state: str) -> None:
     """A device has the state that the list says."""
     console.serves(listed(0, DEVICE), line, "devices 2 seq 9")
-    assert f"70B3D57ED0000002 {'○●▲'['NJA'.index('N')] if state[0] == 'N' else ''}" in (
-        console.get("/devices").text.replace("●", "").replace("▲", "")
-    )
+    sign = {"Never joined": "○", "Joined": "●"}.get(state, "▲")
+    assert f"70B3D57ED0000002 {sign} {state}" in console.get("/devices").text
     assert state in console.get("/devices/70B3D57ED0000002").text
 
 

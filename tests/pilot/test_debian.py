@@ -54,14 +54,15 @@ def test_no_questions(
     monkeypatch.setattr(os, "getuid", lambda: user)
     reader, writer = os.pipe()
     os.write(writer, b"an answer\n")
+    os.close(writer)
     before = os.dup(0)
     os.dup2(reader, 0)
     try:
         debian.as_root("apt-get", "install", "-y", "one")
     finally:
         os.dup2(before, 0)
-        for number in (before, reader, writer):
-            os.close(number)
+        os.close(before)
+        os.close(reader)
     assert system.noted() == [f"|{asks}|install -y one"]
 
 
