@@ -12,9 +12,7 @@ from typing import Any, TypeVar
 from bozintar import debian
 from bozintar.processes import await_that
 
-PACKAGES = ("chromium", "chromium-driver", "python3-selenium", "fonts-dejavu-core")
-# certutil and pk12util, which change a user's database of certificates
-PACKAGES += ("libnss3-tools",)
+PACKAGES = ("chromium", "chromium-driver", "python3-selenium", "fonts-dejavu-core", "libnss3-tools")
 OPTIONS = (
     "--headless=new",
     "--no-sandbox",
@@ -98,7 +96,8 @@ def environment(home: Path | None) -> dict[str, str]:
 
 
 def take_certificate(home: Path, authority: str, packed: str = "", password: str = "") -> None:
-    """Has the browsers of a user trust an authority, and take a certificate with its key."""
+    """Has the browsers of a user trust an authority, and take a certificate with its key, by the
+    programs of libnss3-tools."""
     folder = home / ".pki/nssdb"
     folder.mkdir(parents=True)
     database = ("-d", f"sql:{folder}")

@@ -27,6 +27,9 @@ PAUSES: tuple = (
     ("a server that goes away meanwhile", (0, 0, 0, None, 0), (1, 2, 4, 4, 8)),
 )
 
+# what these links bring
+CONTENTS: tuple[bytes, ...] = ()
+
 
 class Slow:
     """A link's network that doesn't read while `size` bytes wait for it."""
@@ -111,7 +114,7 @@ def test_pauses(tries: tuple, pauses: tuple, monkeypatch: pytest.MonkeyPatch) ->
             raise ConnectionRefusedError("nobody listens")
         link.opened += 1
         now += lasts
-        for content in ():
+        for content in CONTENTS:
             yield content
 
     async def sleep(seconds: float) -> None:

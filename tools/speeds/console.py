@@ -199,8 +199,9 @@ class Turns:
     """What the turns with the console, or without it, came to."""
 
     def __init__(self):
-        self.waits, self.server, self.others = array("q"), 0.0, Counter()
-        self.seconds = 0.0
+        self.waits, self.server, self.seconds = array("q"), 0.0, 0.0
+        # of the lookout and of the console
+        self.others: Counter = Counter()
 
     def figures(self):
         """Their figures."""
