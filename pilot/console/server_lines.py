@@ -223,8 +223,10 @@ def take_link(network: Network, server: Server, kind: str, name: str) -> None:
 
 
 def take_slow_sync(network: Network, server: Server, milliseconds: int) -> None:
-    """A sync of the disk took long. Only the longest of a minute is an event."""
-    minute = network.minute()
-    if 1000 * milliseconds > minute.sync_us:
-        minute.sync_us = 1000 * milliseconds
+    """A sync of the disk took long. It is an event if none of the last hour took longer, since all
+    syncs of a slow disk are slow."""
+    slowest, minute = max(value for _, value in network.series("sync_us", 60)), network.minute()
+    minute.sync_us = max(minute.sync_us, 1000 * milliseconds)
+    # a status may have had the same sync before, in microseconds
+    if milliseconds >= slowest // 1000:
         network.note("sync", "", server.label(f"A sync of the disk took {milliseconds} ms"))

@@ -101,6 +101,16 @@ def test_repeated(console: Console) -> None:
     ]
 
 
+def test_slow_disk(console: Console, clock: Clock) -> None:
+    """If all syncs are slow, events of other kinds aren't pushed out: the slowest ones of an hour
+    are events."""
+    for took in (450, 450, 449, 470, 300) * 12 + (460, 455):
+        clock.now += 61
+        console.lines(f"slow_sync {took}")
+    events = [event.text for event in console.network.events if event.kind == "sync"]
+    assert len(events) == 2 + 12 and events[0] == "A sync of the disk took 470 ms"
+
+
 @pytest.mark.parametrize(
     "line, state",
     [
