@@ -6,7 +6,7 @@ import time
 
 from .devices import Uplink
 from .network import Network
-from .refusals import refusal
+from .refusals import UNKNOWN_DEV_EUI, refusal
 from .servers import Server
 
 # of a line of `lnsd devices`: a later server may add words at its end
@@ -25,7 +25,6 @@ NUMBER = re.compile(r"\d{1,20}")
 EUI = re.compile(r"[0-9A-F]{16}")
 # of the lower 25 bits of a DevAddr the upper twelve are the device's slot
 NWK_ADDR, SESSIONS_OF_SLOT = 0x1FF_FFFF, 13
-UNKNOWN_DEV_EUI = 7
 LINKS = {
     "linked": "Linked",
     "ended": "Link ended",
