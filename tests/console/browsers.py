@@ -4,7 +4,7 @@ import json
 import os
 import subprocess
 import time
-from collections.abc import Callable
+from collections.abc import Callable, Sequence
 from importlib.util import find_spec
 from pathlib import Path
 from typing import Any, TypeVar
@@ -12,7 +12,9 @@ from typing import Any, TypeVar
 from bozintar import debian
 from bozintar.processes import await_that
 
-PACKAGES = ("chromium", "chromium-driver", "python3-selenium", "fonts-dejavu-core", "libnss3-tools")
+PACKAGES = ("chromium", "chromium-driver", "python3-selenium", "fonts-dejavu-core")
+# certutil and pk12util, which change a user's database of certificates
+WITH_CERTIFICATES = (*PACKAGES, "libnss3-tools")
 OPTIONS = (
     "--headless=new",
     "--no-sandbox",
@@ -76,14 +78,14 @@ return performance.getEntriesByType('resource').map((entry) => entry.name).filte
 HEADINGS = "return [...document.querySelectorAll('h1, h2, h3')].map((node) => +node.tagName[1]);"
 
 
-def missing() -> str:
+def missing(packages: Sequence[str] = PACKAGES) -> str:
     """Why there is no browser; nothing if there is one. What is missing is installed if it can
     be."""
-    if debian.missing(PACKAGES):
+    if debian.missing(packages):
         try:
-            debian.need(PACKAGES)
+            debian.need(packages)
         except SystemExit:
-            return f"can't be installed: {' '.join(debian.missing(PACKAGES))}"
+            return f"can't be installed: {' '.join(debian.missing(packages))}"
     if not find_spec("selenium"):
         return "this Python doesn't have Debian's selenium: use /usr/bin/python3"
     return ""

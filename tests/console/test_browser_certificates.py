@@ -66,7 +66,7 @@ Open = Callable[..., Browser]
 @pytest.fixture
 def secure() -> Iterator[Secure]:
     """A console by TLS."""
-    if why := browsers.missing():
+    if why := browsers.missing(browsers.WITH_CERTIFICATES):
         pytest.skip(f"no browser: {why}")
     with Processes() as parts:
         made = Secure(parts)
