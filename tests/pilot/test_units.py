@@ -174,6 +174,29 @@ def test_console_reads_its_files(pilot: Pilot) -> None:
     console.start("listens on https")
 
 
+def test_copies_of_the_night(pilot: Pilot) -> None:
+    """The unit for copies makes one while the server runs, and keeps those of 14 nights; its timer
+    also makes up for a night in which the machine was off."""
+    folder = Path(pilot.file("copies"))
+    folder.mkdir()
+    for day in range(10, 30):
+        (folder / f"store-2020-01-{day}T02-30-00").touch()
+    _, *words = shell(
+        "bozintar-copy.service",
+        "ExecStart",
+        ("%S/lnsd/store", pilot.program.store),
+        ("%S/bozintar-copies", str(folder)),
+        ("/usr/bin/lnsd", pilot.program.path),
+    )
+    copy = pilot.own("copy", *words).start()
+    assert copy.ended(60) == 0, copy.said()
+    *older, newest = sorted(folder.iterdir())
+    assert [file.stat().st_size for file in older] == [0] * 13
+    assert newest.stat().st_size == Path(pilot.program.store).stat().st_size
+    timer = text_of("bozintar-copy.timer")
+    assert "\nOnCalendar=*-*-* " in timer and "\nPersistent=yes\n" in timer
+
+
 def test_events_in_the_journal(pilot: Pilot) -> None:
     """The unit for events waits for a server, prints its events, and ends with it."""
     name, program = "bozintar-watch.service", pilot.program
