@@ -6,7 +6,7 @@ from collections.abc import Iterator
 from dataclasses import dataclass
 
 from .network import DAY, GATEWAY_DAYS, Network
-from .refusals import refusal
+from .refusals import UNKNOWN_DEV_EUI, refusal
 from .text import ago, plural
 
 # the levels, the gravest first: a monitor is alarmed by the first one
@@ -88,6 +88,11 @@ def of_devices(network: Network, now: float) -> Iterator[Problem]:
         what = f"{plural(len(silent), 'device')} silent"
         yield Problem(WARNING, what, why, remedy, "/devices?show=silent")
     devices = list(network.devices.values())
+    if lost := sum(device.is_missed(now) for device in devices):
+        what = f"{plural(lost, 'device')} without a session"
+        why = "After a restore each device has to join again"
+        remedy = "Restart those by hand that don't join by themselves."
+        yield Problem(WARNING, what, why, remedy, "/devices?show=not")
     if low := sum(device.has_low_battery for device in devices):
         what = f"{plural(low, 'device')} with a low battery"
         yield Problem(WARNING, what, "Below 15 %", "Plan a visit.", "/devices?show=battery")
@@ -106,6 +111,9 @@ def of_joins(network: Network, now: float) -> Iterator[Problem]:
         if is_open and refusal(refused.number).needs_attention:
             waiting[refused.number] += 1
     for number, count in sorted(waiting.items()):
-        reason = refusal(number)
+        reason, level = refusal(number), WARNING
         what = f"{plural(count, 'device')} can't join: {reason.name}"
-        yield Problem(WARNING, what, reason.meaning.rstrip("."), reason.remedy, "/refused")
+        if number == UNKNOWN_DEV_EUI:
+            # most of them are other networks'
+            what, level = f"{plural(count, 'unknown device')} asked to join", NOTE
+        yield Problem(level, what, reason.meaning.rstrip("."), reason.remedy, "/refused")

@@ -2,7 +2,7 @@
 the data rate, RSSI, and data rates."""
 
 from dataclasses import dataclass
-from typing import Any
+from typing import Any, NamedTuple
 
 from adapting.rule import FLOORS
 
@@ -19,8 +19,7 @@ SLICES = 400
 HEIGHT = 130
 
 
-@dataclass(frozen=True)
-class Heard:
+class Heard(NamedTuple):
     """An uplink in the history."""
 
     came: float
@@ -113,11 +112,13 @@ def thin(points: list[Point], axis: Point) -> list[Point]:
     if len(points) <= 2 * SLICES:
         return points
     since, until = axis
-    slices: dict[int, list[Point]] = {}
+    scale, lows, highs = SLICES / (until - since), {}, {}
     for point in points:
-        slices.setdefault(int((point[0] - since) / (until - since) * SLICES), []).append(point)
-    found: list[Point] = []
-    for group in slices.values():
-        low, high = (pick(group, key=lambda point: point[1]) for pick in (min, max))
-        found += sorted({low, high})
-    return found
+        place = int((point[0] - since) * scale)
+        if place not in lows:
+            lows[place] = highs[place] = point
+        elif point[1] < lows[place][1]:
+            lows[place] = point
+        elif point[1] > highs[place][1]:
+            highs[place] = point
+    return sorted({*lows.values(), *highs.values()})

@@ -10,6 +10,8 @@ from adapting.rule import FLOORS, Setting
 RECENT, LEAST_GAPS = 20, 3
 # a device is silent if its uplink is late by this number of its intervals, and of seconds
 LATE, LEAST_LATE = 3.0, 120.0
+# for how long a device without a session is missed, in seconds: it may be retired
+MISSED = 31 * 86_400.0
 # below this margin in dB a device is weak; below this percentage a battery is low
 WEAK, LOW_BATTERY = 3.0, 15.0
 
@@ -110,9 +112,10 @@ class Device:
 
     @property
     def state(self) -> str:
-        """Whether it has joined: `accepted` if it was sent an accept and nothing came after it."""
+        """Whether it has joined: `accepted` if it was sent an accept and nothing came after it;
+        `lost` if it was heard before, and has no session any more."""
         if self.session is None:
-            return "accepted" if self.granted else "never"
+            return "lost" if self.heard or self.last else "accepted" if self.granted else "never"
         return "again" if self.granted > self.session else "joined"
 
     @property
@@ -143,9 +146,13 @@ class Device:
 
     def is_silent(self, now: float) -> bool:
         """Whether its next uplink is long overdue."""
-        if not (self.is_joined and self.last and self.interval):
+        if not (self.last and self.interval and (self.is_joined or self.is_missed(now))):
             return False
         return now - self.last > max(LATE * self.interval, LEAST_LATE)
+
+    def is_missed(self, now: float) -> bool:
+        """Whether it was heard lately, and has lost its session, as all have after a restore."""
+        return self.state == "lost" and now - self.last < MISSED
 
     @property
     def is_weak(self) -> bool:

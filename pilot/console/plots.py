@@ -17,7 +17,10 @@ from .text import short
 
 WIDTH, HEIGHT = 1000, 100
 # steps between labels of a time axis, in seconds
-TIME_STEPS = (10, 30, 60, 120, 300, 600, 900, 1800, 3600, 7200, 10_800, 21_600, 43_200, 86_400)
+TIME_STEPS = (
+    *(10, 30, 60, 120, 300, 600, 900, 1800, 3600, 7200, 10_800, 21_600, 43_200),
+    *(86_400, 2 * 86_400),
+)
 LONGEST_STEP, MOST_TIMES = 7 * 86_400, 5
 Point = tuple[float, float]
 Scale = Callable[[float], float]

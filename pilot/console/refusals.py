@@ -15,6 +15,8 @@ class Refusal:
     needs_attention: bool = True
 
 
+# of a join of a device that isn't provisioned
+UNKNOWN_DEV_EUI = 7
 REFUSALS = {
     1: Refusal(
         "Malformed",

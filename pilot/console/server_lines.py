@@ -6,7 +6,7 @@ import time
 
 from .devices import Uplink
 from .network import Network
-from .refusals import refusal
+from .refusals import UNKNOWN_DEV_EUI, refusal
 from .servers import Server
 
 # of a line of `lnsd devices`: a later server may add words at its end
@@ -25,7 +25,6 @@ NUMBER = re.compile(r"\d{1,20}")
 EUI = re.compile(r"[0-9A-F]{16}")
 # of the lower 25 bits of a DevAddr the upper twelve are the device's slot
 NWK_ADDR, SESSIONS_OF_SLOT = 0x1FF_FFFF, 13
-UNKNOWN_DEV_EUI = 7
 LINKS = {
     "linked": "Linked",
     "ended": "Link ended",
@@ -223,8 +222,10 @@ def take_link(network: Network, server: Server, kind: str, name: str) -> None:
 
 
 def take_slow_sync(network: Network, server: Server, milliseconds: int) -> None:
-    """A sync of the disk took long. Only the longest of a minute is an event."""
-    minute = network.minute()
-    if 1000 * milliseconds > minute.sync_us:
-        minute.sync_us = 1000 * milliseconds
+    """A sync of the disk took long. It is an event if none of the last hour took longer, since all
+    syncs of a slow disk are slow."""
+    slowest, minute = max(value for _, value in network.series("sync_us", 60)), network.minute()
+    minute.sync_us = max(minute.sync_us, 1000 * milliseconds)
+    # a status may have had the same sync before, in microseconds
+    if milliseconds >= slowest // 1000:
         network.note("sync", "", server.label(f"A sync of the disk took {milliseconds} ms"))

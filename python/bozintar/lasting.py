@@ -20,8 +20,12 @@ CLOSED = "the network has closed it"
 LASTING, PATIENCE = 10.0, 5.0
 # how many bytes may wait for a network that doesn't read: what is heard is of no use later
 MOST_WAITING = 65536
-# what is heard while no link takes it is sent on the first that does, if it is younger, in seconds
+# what is heard while no link takes it is sent on the first that does, if it is younger, in seconds.
+# So while nobody listens there, tries are no further apart
 LATEST, MOST_EARLY = 2.0, 64
+# a link that lasted this many times as long as the pause before it counts as well, too: two clients
+# of one name end each other's links after a pause
+STEADY = 4
 # a link has no signs of life, so the system asks for them
 KEEPALIVE = ((socket.TCP_KEEPIDLE, 60), (socket.TCP_KEEPINTVL, 15), (socket.TCP_KEEPCNT, 4))
 
@@ -98,10 +102,9 @@ class Link:
     async def contents(self) -> AsyncIterator[bytes]:
         """What comes over all links of this name, one after the other, until one of them was ended
         well."""
-        (first, longest), clock = self.pauses, time.monotonic
-        pause, self.is_logged = first, True
+        clock, self.is_logged, pause = time.monotonic, True, 0.0
         while True:
-            begun = clock()
+            begun, opened = clock(), self.opened
             try:
                 async for content in self.of_one():
                     yield content
@@ -110,15 +113,23 @@ class Link:
                 why = str(fault) or "nothing answers"
             if self.is_ending:
                 return
-            lasted = clock() - begun > LASTING
-            if why == CLOSED and not lasted:
+            lasted = clock() - begun
+            if why == CLOSED and lasted <= LASTING:
                 self.closed_soon += 1
                 why += "; another client may use this name"
-            pause = first if lasted else pause
+            pause = self.next_pause(pause, lasted, self.opened > opened)
             text = f"{self.name}: no link to {self.address}, again in {pause:.1f} s: {why}"
             self.is_logged |= self.seldom.warn(why, text)
             await asyncio.sleep(pause)
-            pause = min(2 * pause, longest)
+
+    def next_pause(self, pause: float, lasted: float, was_linked: bool) -> float:
+        """The pause after a try, of which this was the pause before: whether it made a link, and
+        how long that lasted."""
+        first, longest = self.pauses
+        if was_linked and lasted > min(LASTING, STEADY * pause):
+            return first
+        most = longest if was_linked else max(pause, min(LATEST, longest))
+        return min(max(first, 2 * pause), most)
 
     async def of_one(self) -> AsyncIterator[bytes]:
         """What comes over one link."""

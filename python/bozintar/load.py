@@ -195,10 +195,12 @@ def contents(pieces: Iterable[tuple[int, bytes]]) -> list[tuple[int, bytes]]:
 @dataclass
 class Outcome:
     """What became of a load: how many frames were sent and came out, how long each took beyond its
-    window in nanoseconds, what is wrong, and how long it took to send them in seconds."""
+    window in nanoseconds and when it came, what is wrong, and how long it took to send them in
+    seconds."""
 
     sent: int
     waits: array
+    came: array
     wrong: list[str]
     seconds: float
     downlinks: int
@@ -208,7 +210,7 @@ def judged(order: Sequence[tuple[int, int]], moments: Any, links: Links, pieces:
     """Compares the lines that came with the frames that were sent: each is (device, counter)."""
     sent = dict(zip(order, moments))
     last: dict[int, int] = {}
-    waits, wrong = array("q"), []
+    waits, came, wrong = array("q"), array("q"), []
     for place, link in enumerate(links.applications):
         for moment, content in contents(pieces[link]):
             words = wire.line_of(content).split(" ")
@@ -225,9 +227,10 @@ def judged(order: Sequence[tuple[int, int]], moments: Any, links: Links, pieces:
             else:
                 last[number] = counter
                 waits.append(moment - sent[number, counter] - WINDOW)
+                came.append(moment)
     downlinks = sum(len(contents(pieces[link])) for link in links.gateways)
     seconds = (moments[len(order) - 1] - moments[0]) / 1e9
-    return Outcome(len(order), waits, wrong, seconds, downlinks)
+    return Outcome(len(order), waits, came, wrong, seconds, downlinks)
 
 
 def played(

@@ -1,7 +1,10 @@
 """Debian's Chromium, driven by selenium, as a browser of the console's pages."""
 
+import json
+import os
+import subprocess
 import time
-from collections.abc import Callable
+from collections.abc import Callable, Sequence
 from importlib.util import find_spec
 from pathlib import Path
 from typing import Any, TypeVar
@@ -10,6 +13,8 @@ from bozintar import debian
 from bozintar.processes import await_that
 
 PACKAGES = ("chromium", "chromium-driver", "python3-selenium", "fonts-dejavu-core")
+# certutil and pk12util, which change a user's database of certificates
+WITH_CERTIFICATES = (*PACKAGES, "libnss3-tools")
 OPTIONS = (
     "--headless=new",
     "--no-sandbox",
@@ -73,23 +78,46 @@ return performance.getEntriesByType('resource').map((entry) => entry.name).filte
 HEADINGS = "return [...document.querySelectorAll('h1, h2, h3')].map((node) => +node.tagName[1]);"
 
 
-def missing() -> str:
+def missing(packages: Sequence[str] = PACKAGES) -> str:
     """Why there is no browser; nothing if there is one. What is missing is installed if it can
     be."""
-    if debian.missing(PACKAGES):
+    if debian.missing(packages):
         try:
-            debian.need(PACKAGES)
+            debian.need(packages)
         except SystemExit:
-            return f"can't be installed: {' '.join(debian.missing(PACKAGES))}"
+            return f"can't be installed: {' '.join(debian.missing(packages))}"
     if not find_spec("selenium"):
         return "this Python doesn't have Debian's selenium: use /usr/bin/python3"
     return ""
 
 
-class Browser:
-    """A browser that shows the pages of one address."""
+def environment(home: Path | None) -> dict[str, str]:
+    """The environment of a user's programs."""
+    own = {name: value for name, value in os.environ.items() if not name.startswith("XDG_")}
+    return {**own, "HOME": str(home)} if home else dict(os.environ)
 
-    def __init__(self, folder: Path) -> None:
+
+def take_certificate(home: Path, authority: str, packed: str = "", password: str = "") -> None:
+    """Has the browsers of a user trust an authority, and take a certificate with its key, by the
+    programs of libnss3-tools."""
+    folder = home / ".pki/nssdb"
+    folder.mkdir(parents=True)
+    database = ("-d", f"sql:{folder}")
+    commands = [
+        ("certutil", *database, "-N", "--empty-password"),
+        ("certutil", *database, "-A", "-t", "C,,", "-n", "authority", "-i", authority),
+    ]
+    if packed:
+        commands.append(("pk12util", *database, "-i", packed, "-W", password))
+    for command in commands:
+        subprocess.run(command, check=True, capture_output=True)
+
+
+class Browser:
+    """A browser that shows the pages of one address. By TLS it shows the user's certificate without
+    a question, which a user would be asked once."""
+
+    def __init__(self, folder: Path, address: str = "", home: Path | None = None) -> None:
         from selenium import webdriver
         from selenium.webdriver.chrome.service import Service
 
@@ -97,11 +125,15 @@ class Browser:
         for option in (*OPTIONS, f"--user-data-dir={folder / 'profile'}"):
             options.add_argument(option)
         options.set_capability("goog:loggingPrefs", {"browser": "ALL"})
-        service = Service("/usr/bin/chromedriver")
+        chosen = json.dumps({"pattern": address, "filter": {}})
+        if home:
+            preferences = {"profile.managed_auto_select_certificate_for_urls": [chosen]}
+            options.add_experimental_option("prefs", preferences)
+        service = Service("/usr/bin/chromedriver", env=environment(home))
         self.driver = webdriver.Chrome(service=service, options=options)
         self.driver.set_page_load_timeout(120)
         self.driver.set_script_timeout(60)
-        self.address = ""
+        self.address = address
 
     def end(self) -> None:
         """Ends the browser."""

@@ -214,14 +214,20 @@ class Console:
 
 
 def listed(
-    slot: int, device: str, granted: int = 1, session: str = "1", age: float | None = None
+    slot: int,
+    device: str,
+    granted: int = 1,
+    session: str = "1",
+    age: float | None = None,
+    heard: int | None = None,
 ) -> str:
     """A line of `lnsd devices`: heard last `age` seconds before the last copy of STATUS."""
     counters = "5 2" if session != "-" else "- -"
     last = "- - - -"
     if age is not None:
         last = f"{5321 - round(1000 * age)} {GATEWAY} -20 -95"
-    return f"{slot} {device} {granted} {session} {counters} 0 6 {last}"
+    uplinks = (6 if session != "-" else 0) if heard is None else heard
+    return f"{slot} {device} {granted} {session} {counters} 0 {uplinks} {last}"
 
 
 class Clock:

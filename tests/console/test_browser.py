@@ -1,8 +1,9 @@
 """The pages in a real browser, Debian's Chromium, on a whole network."""
 
 import time
-from collections.abc import Iterator
+from collections.abc import Callable, Iterator
 from functools import partial
+from typing import Any
 
 import pytest
 from bozintar.processes import await_that
@@ -16,6 +17,8 @@ from .sites import KEY
 pytestmark = [pytest.mark.slow, pytest.mark.timed]
 # the meters: one joins and is heard, one can't join, one stays silent
 HEARD, WRONG, NEVER = (f"70B3D57ED000000{number}" for number in (1, 2, 3))
+# how soon a kill is shown, in seconds
+SOON = 5.0
 EVIL = "\"'><script>document.title='owned'</script><img src=x onerror=alert(1)>"
 PAGES = {
     "/": "Needs attention",
@@ -234,30 +237,54 @@ def test_no_internet(browser: Browser) -> None:
         assert "http://" not in source and "https://" not in source
 
 
-def test_away(network: Whole, browser: Browser) -> None:
-    """If the console doesn't answer, the page says so, and goes on when it is back."""
-    browser.show("/server")
+# how a part is killed and started again, and what the page says meanwhile
+KILLS: dict[str, tuple[Callable[[Whole], Any], Callable[[Whole], Any], str]] = {
+    "console": (
+        lambda network: network.console.kill(),
+        lambda network: network.console.start("listens on"),
+        "No answer from the console for",
+    ),
+    "lookout": (
+        lambda network: network.lookout.kill(),
+        lambda network: network.lookout.start("passes on what"),
+        "No server answers",
+    ),
+    "broker": (
+        lambda network: network.broker.kill(),
+        lambda network: network.broker.start("running"),
+        "The broker is away",
+    ),
+    "server": (
+        lambda network: network.pilot.program.kill(),
+        lambda network: network.pilot.program.run_on(96, port=network.pilot.address[1]),
+        "No server answers",
+    ),
+}
+
+
+@pytest.mark.parametrize("part", KILLS)
+def test_killed(network: Whole, browser: Browser, part: str) -> None:
+    """A part that is killed is missed on the open page within five seconds; once it is back, the
+    page is as before by itself."""
+    kill, start, alarm = KILLS[part]
+    browser.show("/")
     browser.reads("Server running")
-    network.console.kill()
-    browser.reads("No answer from the console for")
-    network.console.start("listens on")
-    browser.waits("the band goes", lambda: "No answer from the console" not in browser.text)
+    browser.waits(
+        "all is well", lambda: not any(row[2] in alarms(browser) for row in KILLS.values())
+    )
+    browser.asks("window.isSame = true")
+    kill(network)
+    begun = time.monotonic()
+    browser.waits(f"the page says {alarm!r}", lambda: alarm in alarms(browser))
+    assert time.monotonic() - begun < SOON
+    start(network)
+    browser.waits("the alarm goes", lambda: alarm not in alarms(browser))
+    browser.reads("Server running")
+    assert browser.asks("return window.isSame === true"), "the page wasn't loaded again"
     browser.faults()
 
 
-def test_server_killed(network: Whole, browser: Browser) -> None:
-    """A server that is killed is missed on the page, and back by itself once it is."""
-    browser.show("/")
-    browser.reads("Server running")
-    network.pilot.program.kill()
-    begun = time.monotonic()
-    browser.waits("the problem comes", lambda: "No server answers" in problems(browser))
-    print(f"shown after {time.monotonic() - begun:.1f} s")
-    network.pilot.program.run_on(96, port=network.pilot.address[1])
-    browser.reads("Server running")
-    browser.waits("the problem goes", lambda: "No server answers" not in problems(browser))
-
-
-def problems(browser: Browser) -> str:
-    """What needs attention."""
-    return str(browser.asks("return document.querySelector('.problems, .well').innerText"))
+def alarms(browser: Browser) -> str:
+    """What needs attention, and what the page says of its own age."""
+    parts = "document.querySelectorAll('.problems, .well, #stale:not([hidden])')"
+    return str(browser.asks(f"return [...{parts}].map((part) => part.innerText).join(' ')"))

@@ -101,11 +101,22 @@ def test_repeated(console: Console) -> None:
     ]
 
 
+def test_slow_disk(console: Console, clock: Clock) -> None:
+    """If all syncs are slow, events of other kinds aren't pushed out: the slowest ones of an hour
+    are events."""
+    for took in (450, 450, 449, 470, 300) * 12 + (460, 455):
+        clock.now += 61
+        console.lines(f"slow_sync {took}")
+    events = [event.text for event in console.network.events if event.kind == "sync"]
+    assert len(events) == 2 + 12 and events[0] == "A sync of the disk took 470 ms"
+
+
 @pytest.mark.parametrize(
     "line, state",
     [
         (listed(1, "70B3D57ED0000002", 0, "-"), "Never joined"),
         (listed(1, "70B3D57ED0000002", 1, "-"), "Join accepted"),
+        (listed(1, "70B3D57ED0000002", 1025, "-", heard=9), "No session"),
         (listed(1, "70B3D57ED0000002", 1, "1"), "Joined"),
         (listed(1, "70B3D57ED0000002", 2, "1"), "Joining again"),
         ("1 70B3D57ED0000002 1 1 5 2 0 6", "Joined"),
@@ -115,9 +126,8 @@ def test_repeated(console: Console) -> None:
 def test_states(console: Console, line: str, state: str) -> None:
     """A device has the state that the list says."""
     console.serves(listed(0, DEVICE), line, "devices 2 seq 9")
-    assert f"70B3D57ED0000002 {'○●▲'['NJA'.index('N')] if state[0] == 'N' else ''}" in (
-        console.get("/devices").text.replace("●", "").replace("▲", "")
-    )
+    sign = {"Never joined": "○", "Joined": "●"}.get(state, "▲")
+    assert f"70B3D57ED0000002 {sign} {state}" in console.get("/devices").text
     assert state in console.get("/devices/70B3D57ED0000002").text
 
 

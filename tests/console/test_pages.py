@@ -132,6 +132,7 @@ def test_refused(console: Console) -> None:
     assert "Add the device if it is yours. Add 1" in text
     assert f"{other} ■ UnknownDevEui" in text
     assert "1 device can't join: BadMic" in console.get("/").text
+    assert "1 unknown device asked to join" in console.get("/").text
     assert "Join refused: BadMic, 2 times" in console.get(f"/devices/{DEVICE}").text
     console.lines(f"joined {DEVICE} 2 {GATEWAY}")
     assert "Joined since" in console.get("/refused").text

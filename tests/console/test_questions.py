@@ -61,6 +61,25 @@ def test_silent_meters(operator: Operator) -> None:
     assert operator.lists() == ["School"]
 
 
+def test_after_a_restore(console: Console, operator: Operator, clock: Clock) -> None:
+    """Which meters haven't come back after a restore?"""
+    found = zip((DEVICE, SILENT, KEPT), ("-", "-", "1025"))
+    console.serves(*(listed(slot, eui, 1025, of, None, 9) for slot, (eui, of) in enumerate(found)))
+    operator.page = console.get("/")
+    assert "2 devices without a session After a restore each device has to join again" in (
+        operator.page.text
+    )
+    operator.follow("2 devices without a session")
+    assert set(operator.lists()) == {"Mill", "School", "Bath"}
+    assert "No session" in operator.page.text
+    operator.page = console.get("/devices?show=silent")
+    assert operator.lists() == ["School"]
+    assert "If it doesn't do so by itself, restart it by hand." in operator.follow("School")
+    clock.now += 40 * 24 * HOUR
+    console.settle()
+    assert "without a session" not in console.get("/").text, "it may be retired"
+
+
 def test_join(operator: Operator) -> None:
     """Why does this one not join?"""
     text = operator.follow("1 device can't join: BadMic")

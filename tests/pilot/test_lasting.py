@@ -1,5 +1,8 @@
-"""What a link of a bridge does with what is heard while the network doesn't read."""
+"""What a link of a bridge does with what is heard while the network doesn't read, and when it is
+opened again."""
 
+import asyncio
+from collections.abc import AsyncIterator
 from types import SimpleNamespace
 from typing import Any
 
@@ -7,6 +10,25 @@ import pytest
 from bozintar import lasting, oracle, wire
 from bozintar.lasting import Link
 from bozintar.words import Address
+
+# how long links last, or None for a try after which there is none; and the pauses after these, in
+# seconds
+PAUSES: tuple = (
+    ("restarts nine seconds apart", (9, 9, 9, 9), (1, 1, 1, 1)),
+    ("restarts that take some seconds", (9, None, None, 9, None, 9), (1, 2, 2, 1, 2, 1)),
+    ("a server that is away for long", (100, None, None, None, None), (1, 2, 2, 2, 2)),
+    ("no server yet", (None, None, None), (1, 2, 2)),
+    (
+        "a second client, after equal pauses",
+        (1, 1, 2, 4, 8, 16),
+        (1, 2, 4, 8, 16, 1),
+    ),
+    ("places that are all taken", (0, 0, 0, 0, 0, 0, 0, 11), (1, 2, 4, 8, 16, 30, 30, 1)),
+    ("a server that goes away meanwhile", (0, 0, 0, None, 0), (1, 2, 4, 4, 8)),
+)
+
+# what these links bring
+CONTENTS: tuple[bytes, ...] = ()
 
 
 class Slow:
@@ -75,3 +97,39 @@ def test_most_frames(link: Link, slow: Any) -> None:
     slow.size = 0
     link.catch_up()
     assert slow.said == bytes(range(36, 100))
+
+
+@pytest.mark.parametrize(
+    "tries, pauses", [row[1:] for row in PAUSES], ids=[row[0] for row in PAUSES]
+)
+def test_pauses(tries: tuple, pauses: tuple, monkeypatch: pytest.MonkeyPatch) -> None:
+    """After how long a link is opened again: soon, unless it was closed soon."""
+    now, left, came = 1000.0, list(tries), []
+    link = Link("one", Address("h", 1), b"")
+
+    async def of_one() -> AsyncIterator[bytes]:
+        nonlocal now
+        lasts = left.pop(0) if left else 0
+        if lasts is None:
+            raise ConnectionRefusedError("nobody listens")
+        link.opened += 1
+        now += lasts
+        for content in CONTENTS:
+            yield content
+
+    async def sleep(seconds: float) -> None:
+        nonlocal now
+        now += seconds
+        came.append(seconds)
+        link.is_ending = not left
+
+    monkeypatch.setattr(lasting, "time", SimpleNamespace(monotonic=lambda: now))
+    monkeypatch.setattr(lasting, "asyncio", SimpleNamespace(sleep=sleep, TimeoutError=TimeoutError))
+    monkeypatch.setattr(link, "of_one", of_one)
+
+    async def read() -> None:
+        async for _ in link.contents():
+            pass
+
+    asyncio.run(read())
+    assert tuple(came) == pauses

@@ -8,9 +8,9 @@ import time
 from pathlib import Path
 
 import pytest
-from bozintar.processes import HOST, await_that, command
+from bozintar.processes import HOST, await_that, command, free_port
 
-from .doors import Doors, gateway
+from .doors import Authority, Doors, gateway
 from .field import GATEWAYS
 from .parts import PILOT, Pilot
 
@@ -20,6 +20,7 @@ NAMES = [unit.name for unit in UNITS]
 MOST = 2.5
 # what uses certificates, in the package's settings or as its operator may set it
 BY_TLS = (
+    "bozintar-adr@.service",
     "bozintar-applications-mqtt@.service",
     "bozintar-door.service",
     "bozintar-follow.service",
@@ -73,6 +74,11 @@ def test_time(name: str) -> None:
     """What uses certificates starts once the time is set."""
     for key in ("After", "Wants"):
         assert "time-sync.target" in line_of(name, key).split()
+
+
+def test_journal_of_metrics() -> None:
+    """What runs each 15 seconds writes no line to the journal when it begins and ends."""
+    assert line_of("bozintar-metrics.service", "LogLevelMax") == "notice"
 
 
 def shell(name: str, key: str, *changes: tuple[str, str]) -> list[str]:
@@ -136,6 +142,60 @@ def test_door_reads_its_files_again(doors: Doors) -> None:
     for file in ("server.crt", "ca.crl"):
         found = re.search(rf'pilot_certificate_end_seconds{{file="{copies}/{file}"}} (\S+)', counts)
         assert found and float(found[1]) > time.time(), f"when {file} ends"
+
+
+def test_console_reads_its_files(pilot: Pilot) -> None:
+    """The console's unit copies its files to where its user may read them, as the example of its
+    settings names them. Without files it starts, too."""
+    name, tls, copies = "bozintar-web-console.service", pilot.file("tls"), pilot.file("copies")
+    os.mkdir(copies)
+    places = (
+        ("/etc/bozintar/console", tls),
+        ("%t/bozintar-console", copies),
+        ("-o bozintar-console ", ""),
+    )
+    run(shell(name, "ExecStartPre", *places))
+    own = Authority(tls)
+    own.make("server", "localhost")
+    run(shell(name, "ExecStartPre", *places))
+    settings = (PILOT.parent / "packaging/files/console.conf").read_text(encoding="utf-8")
+    found = re.search(r"^#CONSOLE_WORDS=((?:.*\\\n#)*.*)", settings, re.MULTILINE)
+    assert found and "/etc/" not in found[1]
+    more = found[1].replace("\\\n#", "").replace("/run/bozintar-console", copies)
+    line = line_of(name, "ExecStart").replace("$CONSOLE_WORDS", more)
+    for old, new in (
+        ("/run/bozintar-look/look", pilot.file("look")),
+        ("${BROKER}", f"{HOST}:{pilot.broker_port}"),
+        ("%S/bozintar-console", pilot.folder),
+        ("${CONSOLE}", f"{HOST}:{free_port()}"),
+    ):
+        assert old in line
+        line = line.replace(old, new)
+    console = pilot.own("console/web-console", *shlex.split(line)[1:])
+    console.start("listens on https")
+
+
+def test_copies_of_the_night(pilot: Pilot) -> None:
+    """The unit for copies makes one while the server runs, and keeps those of 14 nights; its timer
+    also makes up for a night in which the machine was off."""
+    folder = Path(pilot.file("copies"))
+    folder.mkdir()
+    for day in range(10, 30):
+        (folder / f"store-2020-01-{day}T02-30-00").touch()
+    _, *words = shell(
+        "bozintar-copy.service",
+        "ExecStart",
+        ("%S/lnsd/store", pilot.program.store),
+        ("%S/bozintar-copies", str(folder)),
+        ("/usr/bin/lnsd", pilot.program.path),
+    )
+    copy = pilot.own("copy", *words).start()
+    assert copy.ended(60) == 0, copy.said()
+    *older, newest = sorted(folder.iterdir())
+    assert [file.stat().st_size for file in older] == [0] * 13
+    assert newest.stat().st_size == Path(pilot.program.store).stat().st_size
+    timer = text_of("bozintar-copy.timer")
+    assert "\nOnCalendar=*-*-* " in timer and "\nPersistent=yes\n" in timer
 
 
 def test_events_in_the_journal(pilot: Pilot) -> None:

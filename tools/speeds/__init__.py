@@ -1,2 +1,2 @@
 """How fast the server is: the words of tools/speed."""
-WORDS = ("server", "run", "chains", "databases", "page")
+WORDS = ("server", "run", "chains", "databases", "console", "page")

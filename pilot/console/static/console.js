@@ -3,7 +3,9 @@
 "use strict";
 
 const EVERY = 2000;
+// how long an answer may take, and from which age on a page says that it is old: two tries have failed
 const LATE = 8000;
+const OLD = EVERY * 1.75;
 const content = document.getElementById("main");
 const root = document.documentElement;
 
@@ -82,17 +84,16 @@ async function ask() {
     if (answer.ok || answer.status === 304) last = Date.now();
   } catch (_) { /* the line below the page says so */ }
   isAsking = false;
-  showAge();
 }
 
 function showAge() {
   const band = document.getElementById("stale");
   const age = Date.now() - last;
-  band.hidden = age < LATE;
+  band.hidden = age < OLD;
   band.querySelector("span").textContent = `${Math.round(age / 1000)} s`;
 }
 
-setInterval(ask, EVERY);
+setInterval(() => { ask().then(showAge); showAge(); }, EVERY);
 document.addEventListener("visibilitychange", ask);
 
 // The numbers of a plot where the pointer is.
