@@ -1,5 +1,5 @@
 // Words, and what they ask for.
-use gateway_server::{Mode, Usage, words};
+use gateway_server::{Edit, Mode, Usage, words};
 use std::alloc::{AllocError, Global};
 
 // Words, and what they ask for: a command with its values, help, or nothing. A NetID is printed as
@@ -94,6 +94,59 @@ const ROWS: &[(&str, &str)] = &[
     ("restore old new --grants 65537", "wrong"),
     ("restore old", "wrong"),
     ("restore --help", "help"),
+    ("export store", "export store false"),
+    ("export --keys store", "export store true"),
+    ("export store --keys --keys", "wrong"),
+    ("export store --dry-run", "wrong"),
+    ("export", "wrong"),
+    ("export --help", "help"),
+    ("import list.csv store", "import list.csv store false"),
+    (
+        "import --dry-run list.csv store",
+        "import list.csv store true",
+    ),
+    (
+        "import list.csv store --netid 00002A --slots 8",
+        "import list.csv store 42 8 false",
+    ),
+    (
+        "import list.csv store --slots 4096 --netid 00003F --dry-run",
+        "import list.csv store 63 4096 true",
+    ),
+    ("import list.csv store --netid 00002A", "wrong"),
+    ("import list.csv store --slots 8", "wrong"),
+    ("import list.csv store --netid 00002a --slots 8", "wrong"),
+    ("import list.csv store --netid 00002A --slots 4097", "wrong"),
+    ("import list.csv", "wrong"),
+    ("import --help", "help"),
+    (
+        "amend store list.csv --dry-run",
+        "amend store list.csv true",
+    ),
+    ("amend store list.csv", "amend store list.csv false"),
+    ("amend store", "wrong"),
+    ("amend --help", "help"),
+    (
+        "retire store 1112131415161718",
+        "retire store 1 1112131415161718 false",
+    ),
+    (
+        "retire store 1112131415161718 --dry-run FFFFFFFFFFFFFFFF",
+        "retire store 2 FFFFFFFFFFFFFFFF true",
+    ),
+    ("retire store 1112131415161718 12", "wrong"),
+    ("retire store 111213141516171a", "wrong"),
+    ("retire store", "wrong"),
+    ("retire --help", "help"),
+    ("grow store larger --slots 16", "grow store larger 16 false"),
+    (
+        "grow store larger --slots 1 --dry-run",
+        "grow store larger 1 true",
+    ),
+    ("grow store larger", "wrong"),
+    ("grow store larger --slots 0", "wrong"),
+    ("grow store --slots 16", "wrong"),
+    ("grow --help", "help"),
     ("--help", "help"),
     ("-h", "help"),
     ("help", "help"),
@@ -162,6 +215,47 @@ fn asked_of(alloc: Global, mode: &Mode<'_>) -> Result<String, AllocError> {
             let (grants, above) = (grants.get(), above.unwrap_or("-"));
             format!(in alloc; "restore {file} {new} {grants} {above}")
         }
+        Mode::Edit(ref edit) => edit_of(alloc, edit),
+    }
+}
+
+fn edit_of(alloc: Global, edit: &Edit<'_>) -> Result<String, AllocError> {
+    match *edit {
+        Edit::Export { file, keys } => format!(in alloc; "export {file} {keys}"),
+        Edit::Import { csv, file, dry_run } => {
+            format!(in alloc; "import {csv} {file} {dry_run}")
+        }
+        Edit::ImportAsNew {
+            csv,
+            file,
+            net_id,
+            slots,
+            dry_run,
+        } => {
+            let (net_id, slots) = (net_id.get(), slots.get());
+            format!(in alloc; "import {csv} {file} {net_id} {slots} {dry_run}")
+        }
+        Edit::Amend { file, csv, dry_run } => format!(in alloc; "amend {file} {csv} {dry_run}"),
+        Edit::Retire {
+            file,
+            ref dev_euis,
+            dry_run,
+        } => match dev_euis.as_slice() {
+            [.., last] => {
+                let (count, last) = (dev_euis.len(), *last);
+                format!(in alloc; "retire {file} {count} {last} {dry_run}")
+            }
+            [] => String::from_str(alloc, "retire nothing"),
+        },
+        Edit::Grow {
+            file,
+            new,
+            slots,
+            dry_run,
+        } => {
+            let slots = slots.get();
+            format!(in alloc; "grow {file} {new} {slots} {dry_run}")
+        }
     }
 }
 
@@ -187,6 +281,11 @@ const HELPS: &[(&str, &[&str])] = &[
             "devices",
             "watch",
             "restore",
+            "export",
+            "import",
+            "amend",
+            "retire",
+            "grow",
             "lnsd format store --netid 00002A --slots 64",
         ],
     ),
