@@ -75,37 +75,59 @@ fn retired() -> Change {
     })
 }
 
-fn rows_of(alloc: Global, kind: Kind) -> Result<Vec<Change>, Refusal> {
-    let mut rows = Vec::new(alloc);
+// The store with a change of this kind, or its disk.
+fn changed(
+    alloc: Global,
+    store: Store<MemDisk>,
+    kind: Kind,
+) -> Result<Store<MemDisk>, NotChanged<MemDisk>> {
     match kind {
         Kind::Import => match importing() {
-            Some(importing) => rows.push(Change::Import(importing))?,
-            None => return Err(Refusal::Malformed),
+            Some(importing) => {
+                let rows = [Change::Import(importing)];
+                store_with_changes(alloc, store, &rows)
+            }
+            None => Err(NotChanged::Store(store.close(), Refusal::Malformed)),
         },
-        Kind::Amend => rows.push(another_key())?,
-        Kind::Retire => rows.push(retired())?,
+        Kind::Amend => {
+            let rows = [another_key()];
+            store_with_changes(alloc, store, &rows)
+        }
+        Kind::Retire => {
+            let rows = [retired()];
+            store_with_changes(alloc, store, &rows)
+        }
         Kind::Twice => {
-            rows.push(another_key())?;
-            rows.push(retired())?;
+            let rows = [another_key(), retired()];
+            store_with_changes(alloc, store, &rows)
         }
     }
-    Ok(rows)
+}
+
+// The disk that a change leaves, if it was made, refused, or cut.
+fn disk_after(made: Result<Store<MemDisk>, NotChanged<MemDisk>>) -> Result<MemDisk, Refusal> {
+    match made {
+        Ok(store) => Ok(store.close()),
+        Err(fault) => match fault {
+            NotChanged::Rows(disk, _refused) => Ok(disk),
+            NotChanged::Store(disk, Refusal::DeviceFailed) => Ok(disk),
+            NotChanged::Store(_disk, refusal) => Err(refusal),
+        },
+    }
 }
 
 // What is found after a crash to this image, if a change is made by this number of calls, and the
 // next one fails.
 fn cut(alloc: Global, kind: Kind, calls: u64, image: &Image) -> Found {
-    let rows = rows_of(alloc, kind)?;
     let mut store = store_of_two(alloc)?;
     store.arm(calls.saturating_add(1));
-    let mut disk = match store_with_changes(alloc, store, rows.as_slice()) {
-        Ok(store) => store.close(),
-        Err(NotChanged::Rows(disk, _)) => disk,
-        Err(NotChanged::Store(disk, Refusal::DeviceFailed)) => disk,
-        Err(NotChanged::Store(_, refusal)) => return Err(refusal),
-    };
+    let mut disk = disk_after(changed(alloc, store, kind))?;
     disk.arm(u64::MAX);
     disk.crash(image);
+    found_on(alloc, disk)
+}
+
+fn found_on(alloc: Global, disk: MemDisk) -> Found {
     let store = open(alloc, disk)?;
     let devices = store.table().devices();
     let key = devices.first().map(|device| device.app_key);

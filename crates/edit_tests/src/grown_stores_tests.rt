@@ -115,7 +115,7 @@ fn the_larger_store_is_whole_while_the_old_one_is_closed(rt: HostRuntime) {
     for calls in 0..=CLOSING {
         for image in &images() {
             let found = match cut(alloc, calls, u64::MAX - 1) {
-                Ok((_, new)) => found_after(alloc, new, image),
+                Ok((_old, new)) => found_after(alloc, new, image),
                 Err(refusal) => Err(refusal),
             };
             assert!(rt; found == NEW, "{calls} calls of the old disk: {found:?}");
@@ -128,7 +128,7 @@ fn the_old_store_is_closed_in_the_end(rt: HostRuntime) {
     let alloc = rt.alloc();
     for image in &images() {
         let found = match cut(alloc, u64::MAX - 1, u64::MAX - 1) {
-            Ok((old, _)) => found_after(alloc, old, image),
+            Ok((old, _new)) => found_after(alloc, old, image),
             Err(refusal) => Err(refusal),
         };
         assert!(rt; found == Err(Refusal::NotFormatted), "{found:?}");
