@@ -4,7 +4,7 @@ ghost use Rattle.std.specs.Prelude.{Some};
 ghost use Rattle.lw_types.specs.declared.refusal.Refusal.TheVariants.{OutOfMemory};
 ghost use Rattle.lnsd_life.specs.Rings.{AreNewRings};
 
-use lnsd_links::{APPLICATIONS, Lines, Outgoing, PLACES, Spare};
+use lnsd_links::{APPLICATIONS, Outgoing, OwnRing, PLACES, Spare};
 use lw_types::Refusal;
 use outbox::{Outlet, ring};
 use rtrb::{Producer, RingBuffer};
@@ -68,13 +68,13 @@ impl<B: Books> Parts<B> {
 
     /// Adds a ring for each application, after those of the links. What is sent to the application
     /// waits there, also while it has no link. Refused with `OutOfMemory` if memory runs out.
-    pub(crate) fn add_lines(&mut self, alloc: Global) -> Result<Vec<Lines>, Refusal>
+    pub(crate) fn add_lines(&mut self, alloc: Global) -> Result<Vec<OwnRing>, Refusal>
         ensures lines { IfOk result (λ all. length all.items ≡ APPLICATIONS) }
         ensures rings { IfOk result (λ all. (added : List Outlet)
             × ((self.new.outlets.items ≡ self.old.outlets.items ++ added)
-            × AreNewRings PLACES added (map (λ (lines : Lines). lines.inlet) all.items))) }
-        ensures applications { IfOk result (λ all. (application : ℕ) (lines : Lines)
-            → slice_get all.items application ≡ Some lines → lines.application ≡ application) }
+            × AreNewRings PLACES added (map (λ (own : OwnRing). own.inlet) all.items))) }
+        ensures applications { IfOk result (λ all. (application : ℕ) (own : OwnRing)
+            → slice_get all.items application ≡ Some own → own.application ≡ application) }
         ensures links { self.new.links ≡ self.old.links }
         ensures refused { IfErr result (λ e. e ≡ OutOfMemory) }
     {
@@ -82,7 +82,7 @@ impl<B: Books> Parts<B> {
         for application in 0..APPLICATIONS {
             let (outlet, inlet) = ring(alloc, PLACES)?;
             self.outlets.push(outlet)?;
-            all.push(Lines { application, inlet })?;
+            all.push(OwnRing { application, inlet })?;
         }
         Ok(all)
     }

@@ -15,7 +15,7 @@ use crate::running::{LifeEnd, run};
 use crate::{LifeReport, ServedLife};
 use disk::Disk;
 use lnsd_links::{
-    Directory, Door, Entrance, Lines, Link, LinkCount, PlaceCount, Policy, Signals, WaitingLines,
+    Directory, Door, Entrance, Link, LinkCount, OwnRing, PlaceCount, Policy, Signals, WaitingLines,
     accept, empty_places,
 };
 use lnsd_operator::{ControlSocket, Counts, DiskTimes, ServeFault};
@@ -374,8 +374,8 @@ impl<B: Books> Equipment<B> {
         let links = places.links.len();
         let mut parts = Parts::new(alloc, shared, links)?;
         let (first_ring, lines) = if places.beginning.policy.lines_wait {
-            let lines = parts.add_lines(alloc)?;
-            (Some(links as u16), waiting_lines(alloc, lines)?)
+            let rings = parts.add_lines(alloc)?;
+            (Some(links as u16), waiting_lines(alloc, rings)?)
         } else {
             (None, Vec::new(alloc))
         };
@@ -389,15 +389,15 @@ impl<B: Books> Equipment<B> {
 
 // The lines of each application behind a lock, in the same order. Refused with `OutOfMemory` if
 // memory runs out.
-fn waiting_lines(alloc: Global, lines: Vec<Lines>) -> Result<Vec<WaitingLines>, Refusal>
+fn waiting_lines(alloc: Global, rings: Vec<OwnRing>) -> Result<Vec<WaitingLines>, Refusal>
     ensures lines { IfOk result
         (λ all. map (λ (waiting : WaitingLines). waiting.application) all.items
-        ≡ map (λ (one : Lines). one.application) lines.items) }
+        ≡ map (λ (own : OwnRing). own.application) rings.items) }
     ensures refused { IfErr result (λ e. e ≡ OutOfMemory) }
 {
     let mut all = Vec::new(alloc);
-    for one in lines {
-        all.push(WaitingLines::new(one))?;
+    for own in rings {
+        all.push(WaitingLines::new(own))?;
     }
     Ok(all)
 }

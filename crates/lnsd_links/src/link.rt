@@ -56,7 +56,7 @@ pub struct Link {
 /// Shows that the link in a place was closed, since its name went over to another one. Only
 /// [`Link::take`] makes it.
 #[derive(Clone, Copy)]
-pub struct Taken {
+pub struct ClosedLink {
     place: usize,
 }
 
@@ -126,12 +126,12 @@ impl Link {
     }
 
     /// Closes the current link, whose name goes over to another one.
-    pub(crate) fn take<R: Wait>(&self, rt: &R) -> Taken
+    pub(crate) fn take<R: Wait>(&self, rt: &R) -> ClosedLink
         ensures { result.place ≡ self.now.place }
     {
         self.taken.store(true, SeqCst);
         self.close(rt);
-        Taken { place: self.place }
+        ClosedLink { place: self.place }
     }
 
     /// Whether the current link lost its name.

@@ -2,7 +2,7 @@
 ghost use Rattle.std.specs.Prelude.{◌≡◌, ◌≤◌, ℕ, length, vec_capacity, slice_get, IsSomeAnd};
 ghost use Rattle.std.specs.Prelude.{None, Some};
 
-use crate::link::{Link, Taken};
+use crate::link::{ClosedLink, Link};
 use devices::Application;
 use gateway_wire::Recipient;
 use lw_types::Eui;
@@ -74,7 +74,7 @@ pub struct Directory {
 }
 
 // Closes the link that had a name, if there was one.
-fn close_older<R: Wait>(rt: &R, links: &[Link], was: Option<usize>) -> Option<Taken>
+fn close_older<R: Wait>(rt: &R, links: &[Link], was: Option<usize>) -> Option<ClosedLink>
     ensures closed { (older : ℕ) (closed : Link) → was ≡ Some older
         → slice_get links.now older ≡ Some closed
         → IsSomeAnd result (λ shown. shown.place ≡ closed.place) }
@@ -137,7 +137,7 @@ impl Directory {
         links: &[Link],
         name: &Recipient,
         link: usize,
-    ) -> Result<(HeldName, Option<Taken>), Full>
+    ) -> Result<(HeldName, Option<ClosedLink>), Full>
         ensures granted { IsOk result ↔ IsTrue (may_take_over self.old name.now) }
         ensures held { IfOk result (λ taken. IsHeld name.now link taken.0) }
         ensures named { MatchResult result (λ _. IsLinked self.old name.now link self.new)

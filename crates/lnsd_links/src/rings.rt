@@ -10,7 +10,7 @@ pub const PLACES: usize = 1024;
 
 /// The end of an application's ring from which its lines come, and the application's number.
 #[derive(Drop)]
-pub struct Lines {
+pub struct OwnRing {
     pub application: usize,
     pub inlet: Inlet,
 }
@@ -25,12 +25,12 @@ pub struct WaitingLines {
 
 impl WaitingLines {
     /// These lines, which no sender holds yet.
-    pub fn new(lines: Lines) -> Self
-        ensures { result.application ≡ lines.application }
+    pub fn new(ring: OwnRing) -> Self
+        ensures { result.application ≡ ring.application }
     {
         WaitingLines {
-            application: lines.application,
-            lines: Mutex::new(Some(lines.inlet)),
+            application: ring.application,
+            lines: Mutex::new(Some(ring.inlet)),
         }
     }
 

@@ -14,7 +14,7 @@ use crate::{Gate, LifeClock, moved_on};
 use gateway_wire::Recipient;
 use link_messages::{Fed, Feeder};
 use lnsd_links::{
-    Call, Directory, Ending, HeldName, HostSender, LeftLink, Link, PLACES, Taken, drop_all,
+    Call, ClosedLink, Directory, Ending, HeldName, HostSender, LeftLink, Link, PLACES, drop_all,
     set_options,
 };
 use lnsd_operator::Sight;
@@ -194,7 +194,7 @@ fn named<R: Wait>(
     name: &Recipient,
     link: usize,
     takes_over: bool,
-) -> Option<(HeldName, Option<Taken>)>
+) -> Option<(HeldName, Option<ClosedLink>)>
     ensures held { IfSome result (λ named. IsHeld name.now link named.0) }
     ensures granted { IsSome result ↔ IsTrue (cond takes_over
         (may_take_over directory.old name.now) (may_greet directory.old name.now)) }
