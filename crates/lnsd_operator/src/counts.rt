@@ -20,6 +20,25 @@ impl Count {
     }
 }
 
+/// A number that only grows, which one thread sets and others read.
+#[derive(Drop)]
+pub struct Highest(AtomicU64);
+
+impl Highest {
+    fn zero() -> Self {
+        Highest(AtomicU64::new(0))
+    }
+
+    /// Sets the number, unless it is higher already.
+    pub fn raise(&self, number: u64) {
+        self.0.fetch_max(number, SeqCst);
+    }
+
+    pub fn get(&self) -> u64 {
+        self.0.load(SeqCst)
+    }
+}
+
 /// What is counted since a life began.
 #[derive(Drop)]
 pub struct Counts {
@@ -33,6 +52,8 @@ pub struct Counts {
     pub silent: Count,
     /// How often decisions became durable.
     pub commits: Count,
+    /// The number of a decision that is durable, and so are all before it.
+    pub durable: Highest,
 }
 
 impl Counts {
@@ -44,6 +65,7 @@ impl Counts {
             taken_over: Count::zero(),
             silent: Count::zero(),
             commits: Count::zero(),
+            durable: Highest::zero(),
         }
     }
 }
