@@ -1,3 +1,4 @@
 mod Ending
 mod Making
 mod Marking
+mod Numbered

@@ -1,11 +1,12 @@
 // The flusher, which commits what was decided and releases its effects.
-ghost use Rattle.std.specs.Prelude.{◌≡◌, ◌+◌, ℕ, IsTrue, IfErr, IfOk, OnOk, false, slice_index_or};
+ghost use Rattle.std.specs.Prelude.{◌≡◌, ◌+◌, ℕ, Bool, IsTrue, IfErr, IfOk, List, OnOk, false};
+ghost use Rattle.std.specs.Prelude.{slice_index_or};
 ghost use Rattle.lnsd_links.specs.declared.names.Directory.{Directory};
 ghost use Rattle.flusher.specs.Calls.{NoneFailed};
 ghost use Rattle.flusher.specs.Released.{effects_of_all};
 ghost use Rattle.lnsd_life.specs.Marks.{AreLinksMarked, with_link};
 ghost use Rattle.lnsd_life.specs.Served.{IsLedOn, IsRefused};
-ghost use Rattle.lnsd_links.specs.Routing.{IsRouted};
+ghost use Rattle.lnsd_links.specs.Routing.{AreMarked, IsRouted};
 ghost use Rattle.store.specs.State.{store_state};
 
 use disk::Disk;
@@ -93,13 +94,40 @@ fn let_out<B: Books, R: Wait>(
     }
     let mut marks = [false; MOST_RINGS];
     let mut missed = Vec::new(alloc);
+    let links = server.links.len();
     let directory = server.directory.lock(rt);
-    let lost = route(&directory, outlets, released, &mut marks, &mut missed);
-    mark_links(&directory, server.links.len(), &mut marks);
+    let lost = let_out_by(
+        &directory,
+        links,
+        outlets,
+        released,
+        &mut marks,
+        &mut missed,
+    );
     drop(directory);
     server.signals.counts.dropped.add(lost as u64);
     tell_missed(rt, server, missed);
     ring_links(server, &marks);
+}
+
+// Puts effects into the rings of the links that this directory has, and marks the links that get
+// something. There are this number of links. Returns how many effects were lost.
+fn let_out_by(
+    directory: &Directory,
+    links: usize,
+    outlets: &mut [Outlet],
+    released: Vec<Released>,
+    marks: &mut [bool],
+    missed: &mut Vec<Recipient>,
+) -> usize
+    ensures routed { IsRouted directory.now (effects_of_all released.items) result outlets.old
+        outlets.new }
+    ensures marked { (between : List Bool) × (AreMarked marks.old between outlets.old outlets.new
+        × AreLinksMarked directory.now links between marks.new) }
+{
+    let lost = route(directory, outlets, released, marks, missed);
+    mark_links(directory, links, marks);
+    lost
 }
 
 // Sends the operators who watch the names whose effects were lost.

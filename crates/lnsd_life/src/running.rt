@@ -6,7 +6,6 @@ ghost use Rattle.lnsd_life.specs.Served.{IsRun};
 use crate::flushing::flush;
 use crate::parts::{LinkParts, Parts};
 use disk::Disk;
-use lnsd_links::{Outgoing, Spare};
 use lnsd_operator::ATTENDANTS;
 use lnsd_threads::{
     Attendant, Closer, Context, Gate, LifeClock, LiveServer, OnBegun, Worker, start,
@@ -83,8 +82,8 @@ fn run_in<
         outlets,
     } = parts;
     let mut started = Started::new(context.alloc);
-    for (number, parts) in links.into_iter().enumerate() {
-        started.start_link(scope, context, server, number, parts);
+    for parts in links {
+        started.start_link(scope, context, server, parts);
     }
     let closer = Closer {
         context,
@@ -143,21 +142,20 @@ impl<B: Books + Send + Sync> Started<B> {
         scope: &Scope<'s, E>,
         context: &'s Context<'s, R, G, C>,
         server: &'s LiveServer<B>,
-        number: usize,
         parts: LinkParts<B>,
     ) {
-        let Some(link) = server.links.get(number) else {
-            return;
-        };
         let LinkParts {
             seat,
             refused,
-            inlet,
+            spare,
         } = parts;
-        let outgoing = Outgoing::new(context.alloc);
-        link.set_spare(context.rt, Spare { inlet, outgoing });
-        let worker = Worker::new(context, server, link, number, seat, refused);
-        let name = format!(in context.alloc; "link-{number}-in");
+        let place = spare.place;
+        let Some(link) = server.links.get(place) else {
+            return;
+        };
+        link.set_spare(context.rt, spare);
+        let worker = Worker::new(context, server, link, place, seat, refused);
+        let name = format!(in context.alloc; "link-{place}-in");
         self.keep_seated(start(scope, name, move || worker.run()));
     }
 

@@ -1,6 +1,8 @@
 // One life of a server.
 ghost use Rattle.std.specs.Prelude.{◌≡◌, ◌≢◌, ◌≤◌, ◌+◌, length, sum, Err, IfErr, IfOk};
-ghost use Rattle.std.specs.Prelude.{cond, map, MatchResult, None, Some};
+ghost use Rattle.std.specs.Prelude.{ℕ, cond, map, slice_get, IsErr, MatchResult, None, Some};
+ghost use Rattle.lnsd_links.specs.declared.door.Entrance.TheVariants.{Filled};
+ghost use Rattle.lnsd_links.specs.declared.link.Link.{Link};
 ghost use Rattle.lw_types.specs.declared.refusal.Refusal.TheVariants.{OutOfMemory, OutOfStep};
 ghost use Rattle.lnsd_operator.specs.declared.fault.ServeFault.TheVariants.{Refused};
 ghost use Rattle.lnsd_operator.specs.Faults.{IsOfBeginning};
@@ -13,13 +15,12 @@ use crate::running::{LifeEnd, run};
 use crate::{LifeReport, ServedLife};
 use disk::Disk;
 use lnsd_links::{
-    Directory, Door, Entrance, Link, LinkCount, PlaceCount, Policy, Signals, WaitingLines, accept,
-    empty_places,
+    Directory, Door, Entrance, Link, LinkCount, OwnRing, PlaceCount, Policy, Signals, WaitingLines,
+    accept, empty_places,
 };
 use lnsd_operator::{ControlSocket, Counts, DiskTimes, ServeFault};
 use lnsd_threads::{Context, Gate, LifeClock, LiveServer, NobodyTold, OnBegun};
 use lw_types::Refusal;
-use outbox::Inlet;
 use session_core::{Books, Core, Seat, Shared};
 use std::alloc::Global;
 use std::marker::Brand;
@@ -74,13 +75,14 @@ pub fn serve_links<
     gate: &'x G,
     clock: &'x C,
 ) -> ServedLife<D>
-    ensures { IsServed D.Disk store result.result result.store }
+    ensures served { IsServed D.Disk store result.result result.store }
+    ensures workers { IfOk result.result
+        (λ report. length report.shares.items ≡ links + 1) }
 {
     let streams = match accept(alloc, listener, links) {
         Ok(streams) => streams,
         Err(fault) => return failed(alloc, store, fault),
     };
-    let count = streams.len() as u64;
     let context = Context {
         rt,
         alloc,
@@ -89,11 +91,12 @@ pub fn serve_links<
         times: None,
     };
     let beginning = Beginning {
+        places: links.get(),
         entrance: Entrance::Filled(streams),
         policy: ONCE,
         control: None,
     };
-    begin(&context, store, count, beginning, &mut NobodyTold)
+    begin(&context, store, beginning, &mut NobodyTold)
 }
 
 /// Serves links that come in through a listener, as many at a time as there are places, until the
@@ -138,7 +141,9 @@ pub fn serve_on<
     times: &'x DiskTimes,
     on_begun: &mut N,
 ) -> ServedLife<D>
-    ensures { IsServed D.Disk store result.result result.store }
+    ensures served { IsServed D.Disk store result.result result.store }
+    ensures workers { IfOk result.result
+        (λ report. length report.shares.items ≡ count + 1) }
 {
     let Ok(door) = Door::new(listener) else {
         return failed(alloc, store, ServeFault::Listen);
@@ -155,11 +160,12 @@ pub fn serve_on<
         times: Some(times),
     };
     let beginning = Beginning {
+        places: count.get(),
         entrance: Entrance::Open(door),
         policy: ANEW,
         control: Some(control),
     };
-    begin(&context, store, count.get(), beginning, on_begun)
+    begin(&context, store, beginning, on_begun)
 }
 
 // A life whose links come before it begins, and stay.
@@ -178,31 +184,35 @@ const ANEW: Policy = Policy {
     lines_wait: true,
 };
 
-// What a life begins with: where its links and its operators come from, and what it does with
-// its links.
+// What a life begins with: the number of its places, where its links and its operators come from,
+// and what it does with its links. If the links come before, each place has one.
 #[derive(Drop)]
 struct Beginning {
+    places: u64,
     entrance: Entrance,
     policy: Policy,
     control: Option<ControlSocket>,
+    ghost few: { places ≤ 96 },
+    ghost filled: { (streams : _) → entrance ≡ Filled streams
+        → length streams.items ≡ places },
 }
 
-// Begins a life with this number of places.
+// Begins a life.
 fn begin<R: Threads + Wait + Sync, D: Disk + Drop, G: Gate + Sync, C: LifeClock + Sync, N: OnBegun>(
     context: &Context<'_, R, G, C>,
     store: Store<D>,
-    count: u64,
     beginning: Beginning,
     on_begun: &mut N,
 ) -> ServedLife<D>
-    requires { count ≤ 96 }
-    ensures { IsServed D.Disk store result.result result.store }
+    ensures served { IsServed D.Disk store result.result result.store }
+    ensures workers { IfOk result.result
+        (λ report. length report.shares.items ≡ beginning.places + 1) }
 {
     let core = match Core::new(context.alloc, store.table(), store.seq()) {
         Ok(core) => core,
         Err(refusal) => return failed(context.alloc, store, ServeFault::Refused(refusal)),
     };
-    let links = match empty_places(context.alloc, count) {
+    let links = match empty_places(context.alloc, beginning.places) {
         Ok(links) => links,
         Err(refusal) => return failed(context.alloc, store, ServeFault::Refused(refusal)),
     };
@@ -215,7 +225,8 @@ fn begin<R: Threads + Wait + Sync, D: Disk + Drop, G: Gate + Sync, C: LifeClock 
 // The result of a life that isn't begun.
 fn failed<D: Disk>(alloc: Global, store: Store<D>, fault: ServeFault) -> ServedLife<D>
     requires { IsOfBeginning fault }
-    ensures { IsServed D.Disk store result.result result.store }
+    ensures served { IsServed D.Disk store result.result result.store }
+    ensures fault { IsErr result.result }
 {
     ServedLife {
         store,
@@ -229,7 +240,9 @@ fn failed<D: Disk>(alloc: Global, store: Store<D>, fault: ServeFault) -> ServedL
 struct Places {
     links: Vec<Link>,
     beginning: Beginning,
-    ghost few: { length links.items ≤ 96 },
+    ghost count: { length links.items ≡ beginning.places },
+    ghost places: { (place : ℕ) (link : Link) → slice_get links.items place ≡ Some link
+        → link.place ≡ place },
 }
 
 fn serve_life<
@@ -253,7 +266,9 @@ fn serve_life<
     requires taken { (taken.name ≡ B.taken_name) × (taken.parts ≡ 1) }
     requires core { core
         ≡ new_core (store_state D.state store).table (store_state D.state store).seq }
-    ensures { IsServed D.Disk store result.result result.store }
+    ensures served { IsServed D.Disk store result.result result.store }
+    ensures workers { IfOk result.result
+        (λ report. length report.shares.items ≡ length places.links.items + 1) }
 {
     let all = places.links.len() as u64 + 1;
     let (mut shared, taker) = Shared::<B>::new(core, all, made, taken);
@@ -273,6 +288,7 @@ fn serve_life<
         entrance,
         policy,
         control,
+        ..
     } = beginning;
     let server = LiveServer {
         signals: Signals::new(links.len() as u64),
@@ -298,6 +314,7 @@ fn served_life<B: Books + Send + Sync, D: Disk + Drop>(
     requires { all ≡ B.made_parts }
     ensures store { result.store ≡ end.store }
     ensures shares { IfOk result.result (λ report. sum report.shares.items ≡ report.made) }
+    ensures workers { IfOk result.result (λ report. length report.shares.items ≡ all) }
     ensures told { IfOk end.result (λ taken.
         MatchResult result.result (λ report. report.made ≡ taken) IsUntold) }
     ensures refused { IfErr end.result (λ refusal. result.result ≡ Err (Refused refusal)) }
@@ -347,14 +364,18 @@ impl<B: Books> Equipment<B> {
     fn new(alloc: Global, shared: &mut Shared<B>, places: &Places) -> Result<Self, Refusal>
         requires { shared.old.left ≡ length places.now.links.items + 1 }
         ensures rings { IfOk result (λ equipment. equipment.directory.first_ring
-            ≡ cond places.now.beginning.policy.lines_wait (Some (length places.now.links.items)) None) }
+            ≡ cond places.now.beginning.policy.lines_wait
+            (Some (length places.now.links.items)) None) }
+        ensures lines { IfOk result (λ equipment. (application : ℕ) (waiting : WaitingLines)
+            → slice_get equipment.lines.items application ≡ Some waiting
+            → waiting.application ≡ application) }
         ensures refused { IfErr result (λ e. e ≡ OutOfMemory) }
     {
         let links = places.links.len();
         let mut parts = Parts::new(alloc, shared, links)?;
         let (first_ring, lines) = if places.beginning.policy.lines_wait {
-            let inlets = parts.add_lines(alloc)?;
-            (Some(links as u16), waiting_lines(alloc, inlets)?)
+            let rings = parts.add_lines(alloc)?;
+            (Some(links as u16), waiting_lines(alloc, rings)?)
         } else {
             (None, Vec::new(alloc))
         };
@@ -366,16 +387,19 @@ impl<B: Books> Equipment<B> {
     }
 }
 
-// Each inlet behind a lock, in the same order. Refused with `OutOfMemory` if memory runs out.
-fn waiting_lines(alloc: Global, inlets: Vec<Inlet>) -> Result<Vec<WaitingLines>, Refusal>
-    ensures lines { IfOk result (λ lines. length lines.items ≡ length inlets.items) }
+// The lines of each application behind a lock, in the same order. Refused with `OutOfMemory` if
+// memory runs out.
+fn waiting_lines(alloc: Global, rings: Vec<OwnRing>) -> Result<Vec<WaitingLines>, Refusal>
+    ensures lines { IfOk result
+        (λ all. map (λ (waiting : WaitingLines). waiting.application) all.items
+        ≡ map (λ (own : OwnRing). own.application) rings.items) }
     ensures refused { IfErr result (λ e. e ≡ OutOfMemory) }
 {
-    let mut lines = Vec::new(alloc);
-    for inlet in inlets {
-        lines.push(Mutex::new(Some(inlet)))?;
+    let mut all = Vec::new(alloc);
+    for own in rings {
+        all.push(WaitingLines::new(own))?;
     }
-    Ok(lines)
+    Ok(all)
 }
 
 // The report. If a seat didn't come back, its thread was never started, since memory ran out. If
@@ -394,7 +418,11 @@ fn report<B: Books>(
         → shared.core.decisions.made ≢ taken }
     ensures sum { IfOk result (λ report. sum report.shares.items ≡ report.made) }
     ensures shares { IfOk result (λ report. report.shares.items ≡ map (λ s. s.made) seats.items) }
+    ensures workers { IfOk result (λ report. length report.shares.items ≡ all) }
 {
+    if seats.len() as u64 != all {
+        return Err(ServeFault::Refused(Refusal::OutOfMemory));
+    }
     let Ok(shares) = shares_of(alloc, &seats) else {
         return Err(ServeFault::Refused(Refusal::OutOfMemory));
     };

@@ -17,11 +17,14 @@ mod writing;
 
 pub use door::{Door, Entrance};
 pub use gathering::drop_all;
-pub use link::{Link, LinkCount, MOST_PLACES, PlaceCount, accept, empty_places, set_options};
+pub use link::{
+    ClosedLink, LeftLink, Link, LinkCount, MOST_PLACES, Named, PlaceCount, accept, empty_places,
+    set_options,
+};
 pub use names::{APPLICATIONS, Directory, Full, HeldName, LeftName, LinkedGateway, MOST_GATEWAYS};
 pub use outgoing::Outgoing;
 pub use policy::Policy;
-pub use rings::{PLACES, WaitingLines};
+pub use rings::{OwnRing, PLACES, WaitingLines};
 pub use routing::route;
 pub use signals::{Ending, LifeStage, Signals};
 pub use stacks::STACK;

@@ -1,10 +1,13 @@
 // Which gateways and applications have links.
-ghost use Rattle.std.specs.Prelude.{◌≤◌, length, vec_capacity};
+ghost use Rattle.std.specs.Prelude.{◌≡◌, ◌≤◌, ℕ, length, vec_capacity, slice_get, IsSomeAnd};
+ghost use Rattle.std.specs.Prelude.{None, Some};
 
+use crate::link::{ClosedLink, Link};
 use devices::Application;
 use gateway_wire::Recipient;
 use lw_types::Eui;
 use std::alloc::{AllocError, Global};
+use std::sync::Wait;
 
 /// The most gateways that have links.
 pub const MOST_GATEWAYS: usize = 64;
@@ -19,7 +22,7 @@ pub struct LinkedGateway {
     pub link: usize,
 }
 
-/// A name that a link has taken over. Only [`Directory::take_over`] makes it.
+/// A name that a link has. Only [`Directory::greet`] and [`Directory::take_over`] make it.
 #[derive(Clone, Copy)]
 pub struct HeldName {
     name: Recipient,
@@ -35,13 +38,18 @@ pub struct LeftName {
 }
 
 impl LeftName {
-    ghost use Rattle.std.specs.Prelude.{◌≡◌};
-
     /// The gateway or application with this name.
     pub fn name(&self) -> Recipient
         ensures { result ≡ self.now.held.name }
     {
         self.held.name
+    }
+
+    /// The name, and the link that left it.
+    pub(crate) fn held(&self) -> HeldName
+        ensures { result ≡ self.now.held }
+    {
+        self.held
     }
 
     /// Whether the link had the name until then, so that no link has it now.
@@ -65,12 +73,23 @@ pub struct Directory {
     ghost room: { 64 ≤ vec_capacity gateways },
 }
 
+// Closes the link that had a name, if there was one.
+fn close_older<R: Wait>(rt: &R, links: &[Link], was: Option<usize>) -> Option<ClosedLink>
+    ensures closed { (older : ℕ) (closed : Link) → was ≡ Some older
+        → slice_get links.now older ≡ Some closed
+        → IsSomeAnd result (λ shown. shown.place ≡ closed.place) }
+    ensures alone { was ≡ None → result ≡ None }
+{
+    let link = links.get(was?)?;
+    Some(link.take(rt))
+}
+
 /// Sixty-four other gateways have links.
 #[derive(Clone, Copy, Debug, PartialEq, Eq)]
 pub struct Full;
 
 impl Directory {
-    ghost use Rattle.std.specs.Prelude.{◌≡◌, ◌≢◌, ◌↔◌, ◌<◌, Some, IsSome, None, IfOk, IsOk, IsTrue};
+    ghost use Rattle.std.specs.Prelude.{◌≢◌, ◌↔◌, ◌<◌, IsSome, IfOk, IsOk, IsTrue};
     ghost use Rattle.std.specs.Prelude.{IfSome, MatchBool, MatchResult};
     ghost use Rattle.std.specs.Option.{MatchOption};
     ghost use Rattle.gateway_wire.specs.declared.recipient.Recipient.TheVariants as names;
@@ -104,18 +123,37 @@ impl Directory {
         if self.link_of(name).is_some() {
             return None;
         }
-        let (held, _) = self.take_over(name, link).ok()?;
+        let (held, _) = self.give(name, link).ok()?;
         Some(held)
     }
 
-    /// Gives a link the name with which a gateway or an application greets, and returns the link
-    /// that had the name until now. Returns `Full` for one more gateway if 64 others have links;
-    /// then nothing is changed.
-    pub fn take_over(
+    /// Gives a link the name with which a gateway or an application greets, and closes the link of
+    /// `links` that had the name until now. Returns `Full` for one more gateway if 64 others have
+    /// links; then nothing is changed. There is no other way to take a name over, so a caller that
+    /// locks the directory keeps it locked until the older link is closed.
+    pub fn take_over<R: Wait>(
         &mut self,
+        rt: &R,
+        links: &[Link],
         name: &Recipient,
         link: usize,
-    ) -> Result<(HeldName, Option<usize>), Full>
+    ) -> Result<(HeldName, Option<ClosedLink>), Full>
+        ensures granted { IsOk result ↔ IsTrue (may_take_over self.old name.now) }
+        ensures held { IfOk result (λ taken. IsHeld name.now link taken.0) }
+        ensures named { MatchResult result (λ _. IsLinked self.old name.now link self.new)
+            (λ _. self.new ≡ self.old) }
+        ensures closed { IfOk result (λ taken. (older : ℕ) (closed : Link)
+            → link_of self.old name.now ≡ Some older → slice_get links.now older ≡ Some closed
+            → IsSomeAnd taken.1 (λ shown. shown.place ≡ closed.place)) }
+        ensures alone { IfOk result
+            (λ taken. link_of self.old name.now ≡ None → taken.1 ≡ None) }
+    {
+        let (held, was) = self.give(name, link)?;
+        Ok((held, close_older(rt, links, was)))
+    }
+
+    // Gives a link a name, and returns the link that had it until now.
+    fn give(&mut self, name: &Recipient, link: usize) -> Result<(HeldName, Option<usize>), Full>
         ensures granted { IsOk result ↔ IsTrue (may_take_over self.old name.now) }
         ensures held { IfOk result (λ taken. IsHeld name.now link taken.0) }
         ensures named { MatchResult result

@@ -1,5 +1,7 @@
 // The signals between the threads of a life. A thread that waits checks first, finds nothing, and
 // parks. A thread that rings changes something first, and then rings. So no change is missed.
+ghost use Rattle.std.specs.Prelude.{◌≡◌};
+
 use lnsd_operator::Counts;
 use std::sync::Wait;
 use std::sync::atomic::Ordering::SeqCst;
@@ -8,6 +10,8 @@ use std::thread::Parker;
 
 #[derive(Drop)]
 pub struct Signals {
+    // The number of workers at the beginning.
+    workers: u64,
     // The number of workers that may still hand something in.
     open_inputs: AtomicU64,
     pub counts: Counts,
@@ -56,9 +60,13 @@ impl LifeStage {
 pub struct Ending(());
 
 impl Signals {
-    pub fn new(inputs: u64) -> Self {
+    /// The signals of a life with this number of workers.
+    pub fn new(workers: u64) -> Self
+        ensures { result.workers ≡ workers }
+    {
         Signals {
-            open_inputs: AtomicU64::new(inputs),
+            workers,
+            open_inputs: AtomicU64::new(workers),
             counts: Counts::new(),
             linked: AtomicU64::new(0),
             stage: AtomicU64::new(LifeStage::Serving.number()),

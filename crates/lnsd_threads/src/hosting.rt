@@ -1,17 +1,21 @@
 // The worker of a place, which takes one link after another.
-ghost use Rattle.std.specs.Prelude.{◌≡◌, ◌-◌, IfSome, IsTrue, None, Some, max, option_map};
-ghost use Rattle.lnsd_links.specs.Linked.{IsHeld};
+ghost use Rattle.std.specs.Prelude.{◌≡◌, ◌-◌, ◌↔◌, IfSome, IsSome, IsTrue, None, Some, cond, max};
+ghost use Rattle.std.specs.Prelude.{option_map};
+ghost use Rattle.lnsd_links.specs.Linked.{IsHeld, may_greet, may_take_over};
+ghost use Rattle.lnsd_links.specs.declared.link.LeftLink.{LeftLink};
+ghost use Rattle.lnsd_threads.specs.declared.hosting.Farewell.TheVariants.{Left};
 ghost use Rattle.lnsd_threads.specs.Hearing.{CameWithGreeting};
 ghost use Rattle.lnsd_threads.specs.Named.{IsFarewell, peer_name};
 
 use crate::lasting::Lasting;
 use crate::reading::{Incoming, PIECE, Worker, read_some, recipient_of};
-use crate::threads::start;
+use crate::sending::start_sender;
 use crate::{Gate, LifeClock, moved_on};
 use gateway_wire::Recipient;
 use link_messages::{Fed, Feeder};
 use lnsd_links::{
-    Call, Directory, Ending, HeldName, HostSender, LeftName, PLACES, drop_all, set_options,
+    Call, ClosedLink, Directory, Ending, HeldName, HostSender, LeftLink, Link, PLACES, drop_all,
+    set_options,
 };
 use lnsd_operator::Sight;
 use lw_types::Refusal;
@@ -42,7 +46,7 @@ struct Greeted {
 /// what is still to be sent, since the life ends or keeps its links.
 #[derive(Clone, Copy)]
 enum Farewell {
-    Left(LeftName),
+    Left(LeftLink),
     Kept(Ending),
     Stays(Lasting),
 }
@@ -172,26 +176,31 @@ fn hold<'s, 'x: 's, E, B: Books, R: Threads + Wait + Sync, G: Gate, C: LifeClock
         link: worker.link,
         call,
     };
-    let name = format!(in context.alloc; "link-{number}-out", number = worker.number);
-    let is_sent = start(scope, name, move || sender.run(refusals)).is_some();
-    if is_sent && worker.hear_all(fed) {
-        worker.read(&call.stream);
+    let sending = start_sender(scope, worker.number, sender, refusals);
+    if let Some(sending) = &sending
+        && worker.hear_all(fed)
+    {
+        worker.read(&call.stream, sending);
     }
-    worker.end_link(held, is_sent)
+    worker.end_link(held, sending.is_some())
 }
 
-// Gives a link a name: one that another link has only if names are taken over. Returns the name
-// that the link holds then, and the link that had it.
-fn named(
+// Gives a link a name: one that another link has only if names are taken over. Then the other link
+// is closed. Returns the name that the link holds then, and that another link was closed.
+fn named<R: Wait>(
+    rt: &R,
     directory: &mut Directory,
+    links: &[Link],
     name: &Recipient,
     link: usize,
     takes_over: bool,
-) -> Option<(HeldName, Option<usize>)>
-    ensures { IfSome result (λ named. IsHeld name.now link named.0) }
+) -> Option<(HeldName, Option<ClosedLink>)>
+    ensures held { IfSome result (λ named. IsHeld name.now link named.0) }
+    ensures granted { IsSome result ↔ IsTrue (cond takes_over
+        (may_take_over directory.old name.now) (may_greet directory.old name.now)) }
 {
     if takes_over {
-        return directory.take_over(name, link).ok();
+        return directory.take_over(rt, links, name, link).ok();
     }
     match directory.greet(name, link) {
         Some(held) => Some((held, None)),
@@ -283,16 +292,15 @@ impl<'x, B: Books, R: Wait, G: Gate, C: LifeClock> Worker<'x, B, R, G, C> {
         ensures held { IfSome result (IsHeld name.now self.now.number) }
     {
         let rt = self.context.rt;
-        let mut directory = self.server.directory.lock(rt);
+        let links = self.server.links.as_slice();
         let takes_over = self.server.policy.takes_over;
-        let Some((held, was)) = named(&mut directory, name, self.number, takes_over) else {
+        let mut directory = self.server.directory.lock(rt);
+        let named = named(rt, &mut directory, links, name, self.number, takes_over);
+        let Some((held, taken)) = named else {
             self.count_fault();
             return None;
         };
-        if let Some(older) = was {
-            if let Some(link) = self.server.links.get(older) {
-                link.take(rt);
-            }
+        if taken.is_some() {
             self.server.signals.counts.taken_over.add(1);
             self.server.tell(rt, Sight::TakenOver(*name));
         }
@@ -300,9 +308,12 @@ impl<'x, B: Books, R: Wait, G: Gate, C: LifeClock> Worker<'x, B, R, G, C> {
         Some(held)
     }
 
-    // Ends the reading of the link. `is_sent` says whether it has a sender.
+    // Ends the reading of the link. `is_sent` says whether it has a sender. If the name was left,
+    // the sender of this very link knows that nothing more comes.
     fn end_link(&mut self, held: HeldName, is_sent: bool) -> Farewell
         ensures farewell { IsFarewell held result }
+        ensures over { (left : LeftLink) → result ≡ Left left
+            → left.place ≡ self.old.link.now.place }
         ensures ended { IsTrue self.old.has_ended → IsTrue self.new.has_ended }
         ensures same { self.new ≡ record self.old { has_ended = self.new.has_ended } }
     {
@@ -318,10 +329,10 @@ impl<'x, B: Books, R: Wait, G: Gate, C: LifeClock> Worker<'x, B, R, G, C> {
         let mut directory = self.server.directory.lock(rt);
         let left = directory.leave(held);
         drop(directory);
-        self.link.set_over();
+        let over = self.link.set_over(left);
         if left.is_free() {
             self.server.tell(rt, Sight::Ended(left.name()));
         }
-        Farewell::Left(left)
+        Farewell::Left(over)
     }
 }

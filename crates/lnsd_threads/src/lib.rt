@@ -12,6 +12,7 @@ mod lasting;
 mod moments;
 mod observing;
 mod reading;
+mod sending;
 mod server;
 mod status;
 mod threads;

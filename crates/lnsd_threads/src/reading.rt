@@ -12,6 +12,7 @@ ghost use Rattle.session_core.specs.declared.event.CallKind.TheVariants.{Asked, 
 ghost use Rattle.session_core.specs.declared.turn.Turn.{Turn};
 
 use crate::context::Context;
+use crate::sending::Sending;
 use crate::server::LiveServer;
 use crate::{Gate, LifeClock};
 use devices::Application;
@@ -106,6 +107,7 @@ impl<'x, B: Books, R: Wait, G: Gate, C: LifeClock> Worker<'x, B, R, G, C> {
         seat: Seat<B>,
         refusals: Producer<Refusal>,
     ) -> Self
+        requires { link.now.place ≡ number }
         ensures { result ≡ record {
           context = context.entry;
           server = server.entry;
@@ -141,8 +143,8 @@ impl<'x, B: Books, R: Wait, G: Gate, C: LifeClock> Worker<'x, B, R, G, C> {
         }
     }
 
-    /// Reads a link until it sends nothing more or may not go on.
-    pub(crate) fn read(&mut self, stream: &TcpStream) {
+    /// Reads a link, which has a sender, until it sends nothing more or may not go on.
+    pub(crate) fn read(&mut self, stream: &TcpStream, _sending: &Sending) {
         let mut buffer = [0u8; PIECE];
         for _ in self.context.rt.forever() {
             match read_some(stream, &mut buffer) {

@@ -1,11 +1,13 @@
 // What the threads of a life share.
-ghost use Rattle.std.specs.Prelude.{◌≡◌, ℕ, IsSome, None, slice_get};
+ghost use Rattle.std.specs.Prelude.{◌≡◌, ℕ, IsSome, None, Some, length, slice_get};
 ghost use Rattle.std.specs.Option.{option_copied};
 ghost use Rattle.gateway_wire.specs.declared.recipient.Recipient.TheVariants as names;
+ghost use Rattle.lnsd_links.specs.declared.link.Link.{Link};
+ghost use Rattle.lnsd_links.specs.declared.rings.WaitingLines.{WaitingLines};
 ghost use Rattle.lw_types.specs.declared.identifiers.Eui.{Eui};
 
 use gateway_wire::Recipient;
-use lnsd_links::{Directory, Entrance, LifeStage, Link, Policy, Signals, WaitingLines, drop_all};
+use lnsd_links::{Directory, Entrance, LifeStage, Link, Policy, Signals, WaitingLines};
 use lnsd_operator::ControlSocket;
 use session_core::{Books, Shared};
 use std::sync::{Mutex, Wait};
@@ -27,6 +29,11 @@ pub struct LiveServer<B: Books> {
     // For each application, the lines that wait for it, if lines wait.
     pub lines: Vec<WaitingLines>,
     pub signals: Signals,
+    ghost places: { (place : ℕ) (link : Link) → slice_get links.items place ≡ Some link
+        → link.place ≡ place },
+    ghost applications: { (application : ℕ) (waiting : WaitingLines)
+        → slice_get lines.items application ≡ Some waiting → waiting.application ≡ application },
+    ghost workers: { signals.workers ≡ length links.items },
 }
 
 impl<B: Books> LiveServer<B> {
@@ -64,9 +71,7 @@ impl<B: Books> LiveServer<B> {
     /// Drops the lines that wait for applications, since no link takes anything more.
     pub fn drop_lines<R: Wait>(&self, rt: &R) {
         for lines in &self.lines {
-            if let Some(inlet) = lines.lock(rt).as_mut() {
-                self.signals.counts.dropped.add(drop_all(inlet));
-            }
+            self.signals.counts.dropped.add(lines.drop_all(rt));
         }
     }
 

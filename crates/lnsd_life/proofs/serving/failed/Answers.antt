@@ -3,8 +3,8 @@ use Rattle.lnsd_life.proofs.Ending.{unbegun}
 use Rattle.lnsd_life.proofs.serving.failed.Goals as goal
 
 -- nothing has happened to the store
-pub returns : goal.returns
-returns g c =
+pub returns-clause-served : goal.returns-clause-served
+returns-clause-served g c =
     record {
       shares = tt {0};
       healthy = tt {0};

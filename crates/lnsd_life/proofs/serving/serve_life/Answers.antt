@@ -5,8 +5,8 @@ use Rattle.lnsd_life.proofs.Ending.{ended_well, told_committed, told_refused}
 use Rattle.lnsd_life.specs.Served.{IsLedOn, IsRefused}
 use Rattle.lnsd_life.proofs.serving.serve_life.Goals as goal
 
-pub returns : goal.returns
-returns g c =
+pub returns-clause-served : goal.returns-clause-served
+returns-clause-served g c =
     let HasNoneFailed = NoneFailed g.D.Disk.failures g.D.Disk.outlook c.args.store in
     let ran = c.run-end.ensures in
     let ended = c.served_life.ensures in
