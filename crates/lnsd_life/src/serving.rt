@@ -21,7 +21,7 @@ use lnsd_links::{
 use lnsd_operator::{ControlSocket, Counts, DiskTimes, ServeFault};
 use lnsd_threads::{Context, Gate, LifeClock, LiveServer, NobodyTold, OnBegun};
 use lw_types::Refusal;
-use session_core::{Books, Core, Seat, Shared};
+use session_core::{BlankHistory, Books, Core, Seat, Shared};
 use std::alloc::Global;
 use std::marker::Brand;
 use std::net::TcpListener;
@@ -219,7 +219,8 @@ fn begin<R: Threads + Wait + Sync, D: Disk + Drop, G: Gate + Sync, C: LifeClock 
     let seats = links.len() as u64 + 1;
     let places = Places { links, beginning };
     let (made, taken) = (Blank::new(seats), Blank::new(1));
-    serve_life::<Brand, R, D, G, C, N>(context, store, places, core, made, taken, on_begun)
+    let history = BlankHistory::new();
+    serve_life::<Brand, R, D, G, C, N>(context, store, places, core, made, taken, history, on_begun)
 }
 
 // The result of a life that isn't begun.
@@ -259,11 +260,13 @@ fn serve_life<
     core: Core,
     made: Blank,
     taken: Blank,
+    history: BlankHistory,
     on_begun: &mut N,
 ) -> ServedLife<D>
     requires made { (made.name ≡ B.made_name) × (made.parts ≡ B.made_parts)
         × (made.parts ≡ length places.links.items + 1) }
     requires taken { (taken.name ≡ B.taken_name) × (taken.parts ≡ 1) }
+    requires history { history.seen.book ≡ B.history }
     requires core { core
         ≡ new_core (store_state D.state store).table (store_state D.state store).seq }
     ensures served { IsServed D.Disk store result.result result.store }
@@ -271,7 +274,7 @@ fn serve_life<
         (λ report. length report.shares.items ≡ length places.links.items + 1) }
 {
     let all = places.links.len() as u64 + 1;
-    let (mut shared, taker) = Shared::<B>::new(core, all, made, taken);
+    let (mut shared, taker) = Shared::<B>::new(core, all, made, taken, history);
     if places.beginning.control.is_some() {
         shared.observe();
     }

@@ -1,5 +1,9 @@
 pub mod Lawful
 pub mod Windows
 pub mod Standing
+mod Adding
+mod Beginnings
 mod Counts
+mod Extending
 mod HandingIn
+mod Remembering

@@ -1,6 +1,6 @@
 // The decisions of one life.
-ghost use Rattle.std.specs.Prelude.{◌≡◌, ◌≤◌, MatchResult, OnErr, Err, false, take, drop, length};
-ghost use Rattle.std.specs.Prelude.{[]};
+ghost use Rattle.std.specs.Prelude.{◌≡◌, ◌≤◌, ◌<◌, MatchResult, OnErr, Err, false, take, drop, length};
+ghost use Rattle.std.specs.Prelude.{[], Some, slice_get};
 ghost use Rattle.lw_types.specs.declared.refusal.Refusal.TheVariants.{Backlog, OutOfMemory};
 ghost use Rattle.session_core.specs.State.{IsLawful, now_of, new_decisions, last_number};
 ghost use Rattle.session_core.specs.Deciding.{Makes, IsWithoutMemory, has_room, step_if_room};
@@ -86,6 +86,22 @@ impl Decisions {
         ensures lawful { IsLawful self.now }
     {
         self.made
+    }
+
+    /// The number of decisions that were taken.
+    pub(crate) fn taken(&self) -> u64
+        ensures count { result ≡ self.now.taken }
+        ensures lawful { IsLawful self.now }
+    {
+        self.taken
+    }
+
+    /// The decision at this place among those that wait to be taken, from 0.
+    pub(crate) fn waiting(&self, place: usize) -> &Decision
+        requires { place < length self.now.log }
+        ensures { slice_get self.now.log place ≡ Some result.now }
+    {
+        &self.log[place]
     }
 
     /// The number of decisions that wait to be taken.

@@ -1,5 +1,5 @@
 // The core, and the events that come to it.
-ghost use Rattle.std.specs.Prelude.{◌≡◌, ◌≤◌, IsSome, MatchResult, take, length};
+ghost use Rattle.std.specs.Prelude.{◌≡◌, ◌≤◌, ◌<◌, IsSome, MatchResult, Some, slice_get, take, length};
 ghost use Rattle.lw_types.specs.declared.refusal.Refusal.TheVariants.{OutOfMemory};
 ghost use Rattle.devices.specs.declared.command.Command.TheVariants as commands;
 ghost use Rattle.session_core.specs.State.{now_of, last_number};
@@ -15,7 +15,7 @@ use circular_buffer::HeapCircularBuffer;
 use dedup::Windows;
 use devices::{Command, MacQueueing, Provisioning, Queueing};
 use lw_types::{FrameCopy, Refusal};
-use sessions::{Batch, Table};
+use sessions::{Batch, Decision, Table};
 use std::alloc::Global;
 use std::marker::Model;
 
@@ -99,6 +99,22 @@ impl Core {
         ensures lawful { IsLawfulCore self.now }
     {
         self.decisions.made()
+    }
+
+    /// The number of decisions that were taken.
+    pub fn taken(&self) -> u64
+        ensures count { result ≡ self.now.decisions.taken }
+        ensures lawful { IsLawfulCore self.now }
+    {
+        self.decisions.taken()
+    }
+
+    /// The decision at this place among those that wait to be taken, from 0.
+    pub(crate) fn waiting(&self, place: usize) -> &Decision
+        requires { place < length self.now.decisions.log }
+        ensures { slice_get self.now.decisions.log place ≡ Some result.now }
+    {
+        self.decisions.waiting(place)
     }
 
     /// The number of decisions that wait to be taken.

@@ -1,11 +1,12 @@
 // A core that several threads share, behind a lock.
-ghost use Rattle.std.specs.Prelude.{◌≡◌, ◌+◌, ◌≤◌, length, IfErr, IfOk, MatchResult};
+ghost use Rattle.std.specs.Prelude.{◌≡◌, ◌+◌, ◌≤◌, drop, length, take, IfErr, IfOk, MatchResult};
 ghost use Rattle.lw_types.specs.declared.refusal.Refusal.TheVariants.{OutOfMemory};
 ghost use Rattle.session_core.specs.Calls.{call_kind_of};
+ghost use Rattle.session_core.specs.History.{HasAdded, IsWhole};
 ghost use Rattle.session_core.specs.Seats.{HasMade};
 ghost use Rattle.session_core.specs.declared.event.CallKind.TheVariants.{Asked, Heard, Ticked};
 
-use crate::{Books, ClosedFrame, Event, Moment, Most, Outcome, Seat, Shared, Taker, Turn};
+use crate::{Books, ClosedFrame, Event, History, Moment, Most, Outcome, Seat, Shared, Taker, Turn};
 use devices::{Command, MacQueueing, Provisioning, Queueing};
 use lw_types::{FrameCopy, Refusal};
 use sessions::Batch;
@@ -14,8 +15,10 @@ use std::sync::{Mutex, Wait};
 
 /// What a call of [`Sessions::handle`] did.
 #[derive(Drop)]
-pub struct Handled {
+pub struct Handled<B: Books> {
     pub turn: Turn,
+    /// The decisions of the life up to the end of the call.
+    pub history: History<B>,
     /// The frames whose windows the call closed, the oldest first. There are none unless the core
     /// is observed ([`Shared::observe`]).
     pub closed: Vec<ClosedFrame>,
@@ -36,8 +39,15 @@ pub trait Sessions<B: Books> {
 
     /// An event comes. The frames whose windows it closed are returned, too, if the core is
     /// observed ([`Shared::observe`]).
-    fn handle<R: Wait>(&self, rt: &R, seat: &mut Seat<B>, moment: Moment, event: Event) -> Handled
-        ensures share { HasMade seat.old seat.new moment (call_kind_of event) result.turn };
+    fn handle<R: Wait>(
+        &self,
+        rt: &R,
+        seat: &mut Seat<B>,
+        moment: Moment,
+        event: Event,
+    ) -> Handled<B>
+        ensures share { HasMade seat.old seat.new moment (call_kind_of event) result.turn }
+        ensures added { HasAdded event result.turn result.history };
 
     /// A gateway heard a frame ([`Sessions::handle`]).
     fn hear<R: Wait>(&self, rt: &R, seat: &mut Seat<B>, moment: Moment, copy: FrameCopy) -> Turn
@@ -89,12 +99,31 @@ pub trait Sessions<B: Books> {
         self.handle(rt, seat, moment, event).turn
     }
 
-    /// Takes the oldest untaken decisions, at most `max` of them.
+    /// Takes the oldest untaken decisions, at most `max` of them. They stand in the history where the
+    /// taker's share ended.
+    fn take_of<R: Wait>(
+        &self,
+        rt: &R,
+        taker: &mut Taker<B>,
+        max: Most,
+    ) -> Result<(Batch, History<B>), Refusal>
+        ensures share { MatchResult result
+            (λ taken. taker.new ≡ taker.old + length taken.0)
+            (λ e. (e ≡ OutOfMemory) × (taker.new ≡ taker.old)) }
+        ensures few { IfOk result (λ taken. length taken.0 ≤ max) }
+        ensures oldest { IfOk result (λ taken. taken.0
+            ≡ take (length taken.0) (drop taker.old taken.1)) };
+
+    /// The same, for callers that don't need the history.
     fn take<R: Wait>(&self, rt: &R, taker: &mut Taker<B>, max: Most) -> Result<Batch, Refusal>
         ensures share { MatchResult result
             (λ batch. taker.new ≡ taker.old + length batch)
             (λ e. (e ≡ OutOfMemory) × (taker.new ≡ taker.old)) }
-        ensures few { IfOk result (λ batch. length batch ≤ max) };
+        ensures few { IfOk result (λ batch. length batch ≤ max) }
+    {
+        let (batch, _) = self.take_of(rt, taker, max)?;
+        Ok(batch)
+    }
 
     /// The outcomes of the last commands that were handed in to be decided; for inspection, for
     /// example by tests.
@@ -113,15 +142,25 @@ impl<B: Books> Sessions<B> for Mutex<Shared<B>> {
         self.lock(rt).made()
     }
 
-    fn handle<R: Wait>(&self, rt: &R, seat: &mut Seat<B>, moment: Moment, event: Event) -> Handled {
+    fn handle<R: Wait>(
+        &self,
+        rt: &R,
+        seat: &mut Seat<B>,
+        moment: Moment,
+        event: Event,
+    ) -> Handled<B> {
         let mut sessions = self.lock(rt);
-        let turn = sessions.handle(seat, moment, event);
-        let closed = sessions.take_closed();
-        Handled { turn, closed }
+        handle_in(rt, &mut sessions, seat, moment, event)
     }
 
-    fn take<R: Wait>(&self, rt: &R, taker: &mut Taker<B>, max: Most) -> Result<Batch, Refusal> {
-        self.lock(rt).take(taker, max)
+    fn take_of<R: Wait>(
+        &self,
+        rt: &R,
+        taker: &mut Taker<B>,
+        max: Most,
+    ) -> Result<(Batch, History<B>), Refusal> {
+        let mut sessions = self.lock(rt);
+        take_in(rt, &mut sessions, taker, max)
     }
 
     fn outcomes<R: Wait>(&self, rt: &R, alloc: Global) -> Result<Vec<Outcome>, Refusal> {
@@ -135,4 +174,60 @@ impl<B: Books> Sessions<B> for Mutex<Shared<B>> {
     fn effective_time<R: Wait>(&self, rt: &R) -> Moment {
         self.lock(rt).effective_time()
     }
+}
+
+// An event comes to a core whose lock is held.
+fn handle_in<B: Books, R: Wait>(
+    rt: &R,
+    shared: &mut Shared<B>,
+    seat: &mut Seat<B>,
+    moment: Moment,
+    event: Event,
+) -> Handled<B>
+    ensures share { HasMade seat.old seat.new moment (call_kind_of event) result.turn }
+    ensures added { HasAdded event result.turn result.history }
+{
+    sessions::laws::joining();
+    let core = shared.core();
+    let _ = core.made();
+    let _ = core.outcomes();
+    let turn = shared.handle(seat, moment, event);
+    let history = history_of(rt, shared);
+    let closed = shared.take_closed();
+    Handled {
+        turn,
+        history,
+        closed,
+    }
+}
+
+// Takes from a core whose lock is held.
+fn take_in<B: Books, R: Wait>(
+    rt: &R,
+    shared: &mut Shared<B>,
+    taker: &mut Taker<B>,
+    max: Most,
+) -> Result<(Batch, History<B>), Refusal>
+    ensures share { MatchResult result
+        (λ taken. taker.new ≡ taker.old + length taken.0)
+        (λ e. (e ≡ OutOfMemory) × (taker.new ≡ taker.old)) }
+    ensures few { IfOk result (λ taken. length taken.0 ≤ max) }
+    ensures oldest { IfOk result (λ taken. taken.0
+        ≡ take (length taken.0) (drop taker.old taken.1)) }
+{
+    let history = history_of(rt, shared);
+    let batch = shared.take(taker, max)?;
+    Ok((batch, history))
+}
+
+// The history, which has each decision. If it lacked one, which can't be, this would never return.
+fn history_of<B: Books, R: Wait>(rt: &R, shared: &Shared<B>) -> History<B>
+    ensures { (result ≡ shared.now.history) × IsWhole shared.now.core.decisions result }
+{
+    for _ in rt.forever() {
+        if let Some(history) = shared.history() {
+            return history;
+        }
+    }
+    unreachable!()
 }

@@ -1,5 +1,5 @@
 // The shares that threads have in what a core made and gave.
-use crate::{Books, CallKind, Made, Moment, Taken};
+use crate::{Books, CallKind, History, Made, Moment, Taken};
 use lw_types::Refusal;
 use std::marker::Model;
 use std::sync::ledger::Share;
@@ -79,6 +79,8 @@ impl<B: Books> Seat<B> {
 pub struct Taker<B: Books> {
     pub(crate) share: Share<Taken<B>>,
     pub(crate) count: u64,
+    // The empty beginning of the history.
+    first: History<B>,
 }
 
 impl<B: Books> Model for Taker<B> {
@@ -94,11 +96,20 @@ impl<B: Books> Model for Taker<B> {
 impl<B: Books> Taker<B> {
     ghost use Rattle.std.specs.Prelude.{◌≡◌};
 
-    pub(crate) fn new(share: Share<Taken<B>>) -> Self
+    pub(crate) fn new(share: Share<Taken<B>>, first: History<B>) -> Self
         requires { (share.parts ≡ 1) × (share.amount ≡ 0) }
         ensures { result ≡ 0 }
     {
-        Taker { share, count: 0 }
+        Taker {
+            share,
+            count: 0,
+            first,
+        }
+    }
+
+    /// A beginning of the history.
+    pub fn first(&self) -> History<B> {
+        self.first.again()
     }
 
     /// The number of decisions taken.

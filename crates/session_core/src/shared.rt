@@ -6,12 +6,14 @@ ghost use Rattle.devices.specs.declared.command.Command.TheVariants as commands;
 ghost use Rattle.session_core.specs.Calls.{call_kind_of, work_of};
 ghost use Rattle.session_core.specs.Deciding.{after_taking};
 ghost use Rattle.session_core.specs.Events.{Asks, Hears, IsTurn, Ticks, next_due};
+ghost use Rattle.session_core.specs.History.{IsWhole, LacksOnly};
 ghost use Rattle.session_core.specs.Seats.{HasMade, made_by, new_seat};
 ghost use Rattle.session_core.specs.declared.event.CallKind.TheVariants.{Asked, Heard, Ticked};
 
+use crate::history::HistoryHead;
 use crate::{
-    Books, CallKind, ClosedFrame, Core, Event, LastCall, Made, Moment, Most, Outcome, Seat, Taken,
-    Taker, Turn,
+    BlankHistory, Books, CallKind, ClosedFrame, Core, Event, History, LastCall, Made, Moment, Most,
+    Outcome, Seat, Taken, Taker, Turn,
 };
 use devices::{Command, MacQueueing, Provisioning, Queueing};
 use lw_types::{FrameCopy, Refusal};
@@ -19,9 +21,14 @@ use sessions::Batch;
 use std::alloc::Global;
 use std::sync::ledger::{Blank, Book, Share};
 
+// The most decisions of which a history is known to be whole: more than a life makes in a hundred
+// years.
+const MOST_MADE: u64 = 1 << 62;
+
 /// A core with two books: the number of decisions made, which is the sum of the seats' shares, and
-/// the number of decisions taken, which is the taker's share. Each call costs as much as that of
-/// the core.
+/// the number of decisions taken, which is the taker's share. Beside them is the history of all
+/// decisions made, of which those that wait are the end. Each call costs as much as that of the
+/// core.
 #[derive(Drop)]
 pub struct Shared<B: Books> {
     core: Core,
@@ -30,6 +37,12 @@ pub struct Shared<B: Books> {
     // The parts of the seats that weren't given yet, and their number.
     spare: Share<Made<B>>,
     left: u64,
+    head: HistoryHead<B>,
+    history: History<B>,
+    // Whether the history has each decision. It always does, since nobody else adds to it. The
+    // toolchain has no form that says so.
+    is_whole: bool,
+    ghost history_is: { IsTrue is_whole → IsWhole core.decisions history },
     ghost made_is: { core.decisions.made ≡ made.total },
     ghost taken_is: { core.decisions.taken ≡ taken.total },
     ghost spare_is: { spare.parts ≡ left },
@@ -39,7 +52,14 @@ pub struct Shared<B: Books> {
 impl<B: Books> Shared<B> {
     /// A core that has made and given no decision yet, with this number of seats to give, and the
     /// share of the taker. The blanks are those of the two ledgers. Takes no memory.
-    pub fn new(core: Core, seats: u64, made: Blank, taken: Blank) -> (Self, Taker<B>)
+    pub fn new(
+        core: Core,
+        seats: u64,
+        made: Blank,
+        taken: Blank,
+        history: BlankHistory,
+    ) -> (Self, Taker<B>)
+        requires history { history.seen.book ≡ B.history }
         requires none_made { core.decisions.made ≡ 0 }
         requires none_taken { core.decisions.taken ≡ 0 }
         requires made { (made.name ≡ B.made_name) × (made.parts ≡ B.made_parts)
@@ -51,14 +71,20 @@ impl<B: Books> Shared<B> {
     {
         let (made, spare) = made.open::<Made<B>>();
         let (taken, all) = taken.open::<Taken<B>>();
+        let (head, history) = history.named::<B>();
+        let taker = Taker::new(all, history.again());
+        let _ = core.made();
         let shared = Shared {
             core,
             made,
             taken,
             spare,
             left: seats,
+            head,
+            history,
+            is_whole: true,
         };
-        (shared, Taker::new(all))
+        (shared, taker)
     }
 
     /// A seat through which nothing was made yet. Takes no memory.
@@ -109,10 +135,25 @@ impl<B: Books> Shared<B> {
         ensures share { HasMade seat.old seat.new moment (call_kind_of event) result }
         ensures left { self.new.left ≡ self.old.left }
     {
+        sessions::laws::joining();
+        let _ = self.core.outcomes();
         let kind = event.kind();
         let turn = self.core.handle(moment, event);
+        self.is_whole = extend(&self.head, &mut self.history, &self.core, self.is_whole);
         count(&mut self.made, seat, moment, kind, &turn);
         turn
+    }
+
+    /// The history, if it has each decision.
+    pub fn history(&self) -> Option<History<B>>
+        ensures { IfSome result (λ history. (history ≡ self.now.history)
+            × IsWhole self.now.core.decisions history) }
+    {
+        if self.is_whole {
+            Some(self.history.again())
+        } else {
+            None
+        }
     }
 
     /// A gateway heard a frame ([`Core::hear`]).
@@ -256,6 +297,29 @@ fn gather_shares<B: Books>(
         spare.merge(share);
     }
     left.checked_add(count) == Some(all)
+}
+
+// Adds the decisions of a core that a history lacks, if it was whole before these. Returns whether
+// it is whole now.
+fn extend<B: Books>(
+    head: &HistoryHead<B>,
+    history: &mut History<B>,
+    core: &Core,
+    was_whole: bool,
+) -> bool
+    requires { IsTrue was_whole → LacksOnly core.now.decisions history.old }
+    ensures { IsTrue result → IsWhole core.now.decisions history.new }
+{
+    if !was_whole {
+        return false;
+    }
+    let first = history.len() - core.taken();
+    for place in first as usize..core.untaken() {
+        if history.len() >= MOST_MADE || !history.add(head, core.waiting(place)) {
+            return false;
+        }
+    }
+    true
 }
 
 // Counts a call and the decisions of its turn, and stores the call as the seat's last one.
