@@ -31,6 +31,10 @@ pub struct Counts {
     pub taken_over: Count,
     /// Links that didn't greet in time.
     pub silent: Count,
+    /// Links whose names aren't listed.
+    pub unlisted: Count,
+    /// How often a worker waited before it handed in copies.
+    pub slowed: Count,
     /// How often decisions became durable.
     pub commits: Count,
 }
@@ -43,6 +47,8 @@ impl Counts {
             dropped: Count::zero(),
             taken_over: Count::zero(),
             silent: Count::zero(),
+            unlisted: Count::zero(),
+            slowed: Count::zero(),
             commits: Count::zero(),
         }
     }

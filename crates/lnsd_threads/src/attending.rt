@@ -6,7 +6,7 @@ use crate::context::Context;
 use crate::server::LiveServer;
 use crate::status::{devices_text, status_text};
 use crate::{Gate, LifeClock};
-use lnsd_links::{LifeStage, is_passing};
+use lnsd_links::{LifeStage, NameSource, is_passing, read_names};
 use lnsd_operator::{ControlSocket, Order, Waiting, Watch};
 use lw_types::Refusal;
 use session_core::Books;
@@ -21,6 +21,12 @@ pub const WATCHING: &str = "watching\n";
 
 /// Sent when all places for watchers are taken.
 pub const BUSY: &str = "busy\n";
+
+/// Sent when the list of the names that may greet was read again.
+pub const RELOADED: &str = "reloaded\n";
+
+/// Sent in answer to `reload` if there is no such list.
+pub const NO_NAMES: &str = "no names\n";
 
 // The empty line after the last line of the counts or of the devices. An answer without it was cut
 // off.
@@ -44,15 +50,17 @@ const LONGEST_ORDER: usize = 16;
 
 /// An attendant of a control socket.
 #[derive(Drop)]
-pub struct Attendant<'x, B: Books, R: Wait, G: Gate, C: LifeClock> {
+pub struct Attendant<'x, B: Books, R: Wait, G: Gate, C: LifeClock, S: NameSource> {
     pub context: &'x Context<'x, R, G, C>,
+    // Where the list of the names that may greet is read, if there is one.
+    pub names: Option<&'x S>,
     pub server: &'x LiveServer<B>,
     pub control: &'x ControlSocket,
     // From 0.
     pub number: usize,
 }
 
-impl<'x, B: Books, R: Wait, G: Gate, C: LifeClock> Attendant<'x, B, R, G, C> {
+impl<'x, B: Books, R: Wait, G: Gate, C: LifeClock, S: NameSource> Attendant<'x, B, R, G, C, S> {
     /// Serves one operator after another, until the life is over.
     pub fn run(self) {
         for _ in self.context.rt.forever() {
@@ -104,7 +112,24 @@ impl<'x, B: Books, R: Wait, G: Gate, C: LifeClock> Attendant<'x, B, R, G, C> {
                 tell_text(&stream, text);
             }
             Some(Order::Watch) => self.receive(&stream),
+            Some(Order::Reload) => tell_text(&stream, self.reload()),
             None => {}
+        }
+    }
+
+    // Reads the list of the names that may greet again, and returns the answer. If that fails, the
+    // list stays as it was.
+    fn reload(&self) -> Result<String, Refusal> {
+        let alloc = self.context.alloc;
+        let Some(source) = self.names else {
+            return Ok(String::from_str(alloc, NO_NAMES)?);
+        };
+        match read_names(source, self.server.links.len()) {
+            Ok(list) => {
+                self.server.relist(self.context.rt, list);
+                Ok(String::from_str(alloc, RELOADED)?)
+            }
+            Err(fault) => Ok(format!(in alloc; "{fault}\n")?),
         }
     }
 

@@ -1,7 +1,8 @@
 // The worker of a place, which takes one link after another.
-ghost use Rattle.std.specs.Prelude.{◌≡◌, ◌-◌, ◌↔◌, IfSome, IsSome, IsTrue, None, Some, cond, max};
-ghost use Rattle.std.specs.Prelude.{option_map};
-ghost use Rattle.lnsd_links.specs.Linked.{IsHeld, may_greet, may_take_over};
+ghost use Rattle.std.specs.Prelude.{◌≡◌, ◌-◌, ◌↔◌, Err, IfOk, IfSome, IsOk, IsTrue, None, Some};
+ghost use Rattle.std.specs.Prelude.{cond, false, max, option_map};
+ghost use Rattle.lnsd_links.specs.Linked.{IsHeld, is_listed, may_greet, may_take_over};
+ghost use Rattle.lnsd_links.specs.declared.names.Ungranted.TheVariants.{Unlisted};
 ghost use Rattle.lnsd_links.specs.declared.link.LeftLink.{LeftLink};
 ghost use Rattle.lnsd_threads.specs.declared.hosting.Farewell.TheVariants.{Left};
 ghost use Rattle.lnsd_threads.specs.Hearing.{CameWithGreeting};
@@ -14,8 +15,8 @@ use crate::{Gate, LifeClock, moved_on};
 use gateway_wire::Recipient;
 use link_messages::{Fed, Feeder};
 use lnsd_links::{
-    Call, ClosedLink, Directory, Ending, HeldName, HostSender, LeftLink, Link, PLACES, drop_all,
-    set_options,
+    Call, ClosedLink, Directory, Ending, HeldName, HostSender, LeftLink, Link, PLACES, Ungranted,
+    drop_all, set_options,
 };
 use lnsd_operator::Sight;
 use lw_types::Refusal;
@@ -185,8 +186,9 @@ fn hold<'s, 'x: 's, E, B: Books, R: Threads + Wait + Sync, G: Gate, C: LifeClock
     worker.end_link(held, sending.is_some())
 }
 
-// Gives a link a name: one that another link has only if names are taken over. Then the other link
-// is closed. Returns the name that the link holds then, and that another link was closed.
+// Gives a link a name that is listed: one that another link has only if names are taken over. Then
+// the other link is closed. Returns the name that the link holds then, and that another link was
+// closed.
 fn named<R: Wait>(
     rt: &R,
     directory: &mut Directory,
@@ -194,17 +196,18 @@ fn named<R: Wait>(
     name: &Recipient,
     link: usize,
     takes_over: bool,
-) -> Option<(HeldName, Option<ClosedLink>)>
-    ensures held { IfSome result (λ named. IsHeld name.now link named.0) }
-    ensures granted { IsSome result ↔ IsTrue (cond takes_over
+) -> Result<(HeldName, Option<ClosedLink>), Ungranted>
+    ensures held { IfOk result (λ named. IsHeld name.now link named.0) }
+    ensures granted { IsOk result ↔ IsTrue (cond takes_over
         (may_take_over directory.old name.now) (may_greet directory.old name.now)) }
+    ensures unlisted { (result ≡ Err Unlisted) ↔ (is_listed directory.old name.now ≡ false) }
 {
     if takes_over {
-        return directory.take_over(rt, links, name, link).ok();
+        return directory.take_over(rt, links, name, link);
     }
     match directory.greet(name, link) {
-        Some(held) => Some((held, None)),
-        None => None,
+        Ok(held) => Ok((held, None)),
+        Err(ungranted) => Err(ungranted),
     }
 }
 
@@ -296,9 +299,17 @@ impl<'x, B: Books, R: Wait, G: Gate, C: LifeClock> Worker<'x, B, R, G, C> {
         let takes_over = self.server.policy.takes_over;
         let mut directory = self.server.directory.lock(rt);
         let named = named(rt, &mut directory, links, name, self.number, takes_over);
-        let Some((held, taken)) = named else {
-            self.count_fault();
-            return None;
+        let (held, taken) = match named {
+            Ok(given) => given,
+            Err(Ungranted::Unlisted) => {
+                self.server.signals.counts.unlisted.add(1);
+                self.server.tell(rt, Sight::Unlisted(*name));
+                return None;
+            }
+            Err(_) => {
+                self.count_fault();
+                return None;
+            }
         };
         if taken.is_some() {
             self.server.signals.counts.taken_over.add(1);

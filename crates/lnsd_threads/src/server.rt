@@ -7,7 +7,7 @@ ghost use Rattle.lnsd_links.specs.declared.rings.WaitingLines.{WaitingLines};
 ghost use Rattle.lw_types.specs.declared.identifiers.Eui.{Eui};
 
 use gateway_wire::Recipient;
-use lnsd_links::{Directory, Entrance, LifeStage, Link, Policy, Signals, WaitingLines};
+use lnsd_links::{Directory, Entrance, LifeStage, Link, NameList, Policy, Signals, WaitingLines};
 use lnsd_operator::ControlSocket;
 use session_core::{Books, Shared};
 use std::sync::{Mutex, Wait};
@@ -54,6 +54,13 @@ impl<B: Books> LiveServer<B> {
         for link in &self.links {
             link.close_input(rt);
         }
+    }
+
+    /// Replaces the list of the names that may greet, and closes the links whose names aren't
+    /// listed any more.
+    pub(crate) fn relist<R: Wait>(&self, rt: &R, list: NameList) {
+        let links = self.links.as_slice();
+        self.directory.lock(rt).relist(rt, links, list);
     }
 
     /// The lines that wait for an application, if applications have rings of their own.

@@ -1,7 +1,10 @@
 // Links that come and go during a server's life.
 use crate::lives::{new_store, of_socket, refusal_of};
 use crate::wire::wire;
-use lnsd_life::{Monotonic, OnBegun, OpenGate, Order, PlaceCount, ServedLife, WATCHING, serve_on};
+use lnsd_life::{
+    Monotonic, NameList, NameListFault, NameSource, OnBegun, OpenGate, Order, PlaceCount,
+    ServedLife, WATCHING, serve_on,
+};
 use lnsd_operator::DiskTimes;
 use lw_types::Refusal;
 use std::alloc::Global;
@@ -179,6 +182,19 @@ fn lacks<'a>(text: &str, wanted: &[&'a str]) -> Option<&'a str> {
     wanted.iter().copied().find(|it| !text.contains(*it))
 }
 
+// The names that may greet, from a text.
+#[derive(Drop)]
+struct TextNames<'a> {
+    alloc: Global,
+    text: &'a str,
+}
+
+impl<'a> NameSource for TextNames<'a> {
+    fn read(&self) -> Result<NameList, NameListFault> {
+        NameList::read(self.alloc, self.text)
+    }
+}
+
 // How often `on_begun` was called.
 #[derive(Drop)]
 struct Begun(u64);
@@ -210,7 +226,7 @@ where
     let (served, said) = join(
         rt,
         || serve_on(
-            rt, alloc, store, listener, control, places, &OpenGate, &clock, &times, &mut begun,
+            rt, alloc, store, listener, control, places, None::<&TextNames>, &OpenGate, &clock, &times, &mut begun,
         ),
         || clients(rt, alloc, address, &at),
     );
