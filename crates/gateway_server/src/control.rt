@@ -153,11 +153,10 @@ pub(crate) fn stop<R: Files + Net>(rt: &R, alloc: Global, file: &str) -> Result<
 /// Has the server that runs on the store in a file read its list of names again. If the server
 /// keeps the old list, returns why.
 pub(crate) fn reload<R: Files + Net>(rt: &R, alloc: Global, file: &str) -> Result<(), Fault> {
-    let answer = ask(alloc, connect_to(rt, alloc, file)?, Order::Reload)?;
+    let answer = unbroken(ask(alloc, connect_to(rt, alloc, file)?, Order::Reload)?)?;
     match answer.as_str() {
         RELOADED => Ok(()),
         NO_NAMES => Err(Fault::NoNames),
-        "" => Err(Fault::BrokenOff),
         refused => Err(Fault::NotReloaded(String::from_str(alloc, refused.trim_end())?)),
     }
 }

@@ -14,6 +14,7 @@ use store_files::FileCause;
 const LONGEST: u64 = 1 << 20;
 
 /// A file of names, which is read each time that the names are asked for.
+#[derive(Drop)]
 pub(crate) struct NamesFile<'a, R> {
     pub(crate) rt: &'a R,
     pub(crate) alloc: Global,

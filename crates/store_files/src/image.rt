@@ -1,5 +1,5 @@
 // What a store's disk holds, while somebody else may write it.
-ghost use Rattle.std.specs.Prelude.{◌≡◌, ◌≤◌, ◌<◌, ◌+◌, length, take, drop, true, IfOk, IfSome};
+ghost use Rattle.std.specs.Prelude.{◌≡◌, ◌≤◌, ◌+◌, ℕ, List, length, take, drop, true, IfOk, IfSome};
 ghost use Rattle.std.specs.Prelude.{OnOk, OnSome};
 ghost use Rattle.store_files.specs.Images.{IsFrontOf};
 ghost use Rattle.store_layout.specs.Superblock.{disk_len};
@@ -12,17 +12,22 @@ use lw_types::Refusal;
 use std::alloc::Global;
 use store_layout::Superblock;
 
-// The bytes that name an area and its life: the gate, the version and the generation.
-const LIFE: usize = 10;
+// Where the generation is in an area, and its length.
+const GENERATION_AT: usize = 2;
+const GENERATION: usize = 8;
 
 // Where the length of the records is in an area's header.
 const RECORDS_LEN_AT: usize = 21;
 
-/// The bytes of a store's disk. A server opens the gate of an area, or of a batch, after it has
-/// written what follows it, and writes no other byte of an open area but the next batch. So each
-/// gate is read before what follows it, and the bytes hold a table that the disk held. `None` if an
-/// area was written anew while it was read. Refused as an opening is for the superblock, if a read
-/// fails, or if memory runs out.
+/// The bytes of a store's disk, which hold a table that the disk held meanwhile. `None` if an area
+/// was written anew. Refused as an opening is for the superblock, if a read fails, or if memory runs
+/// out.
+///
+/// A server opens a gate after it has written what follows it, writes nothing else of an open area
+/// than the next batch, and gives an area that it writes anew a greater generation. One area is
+/// always open. So each gate is read before what follows it, an area's generation before its gate
+/// too, and in the end both areas must have the gates and generations that were read. The first one
+/// is looked at once more after that, since both might have been read while they were closed.
 pub fn image_of<S: Source>(alloc: Global, source: &mut S) -> Result<Option<Vec<u8>>, Refusal>
     ensures image { S.still
         → IfOk result (λ read. IfSome read (λ image. image.items ≡ S.content source.old)) }
@@ -33,14 +38,13 @@ pub fn image_of<S: Source>(alloc: Global, source: &mut S) -> Result<Option<Vec<u
     let (superblock, front) = front_of(source)?;
     let area_len = superblock.area_len() as usize;
     let mut image = Vec::from_slice(alloc, &front)?;
-    let end_of_a = Superblock::LEN + area_len;
-    if !read_area(alloc, source, &mut image, end_of_a)? {
-        return Ok(None);
-    }
-    if !read_area(alloc, source, &mut image, end_of_a + area_len)? {
-        return Ok(None);
-    }
-    Ok(Some(image))
+    let (first, second) = (Superblock::LEN, Superblock::LEN + area_len);
+    let is_same = read_area(alloc, source, &mut image, second)?
+        && read_area(alloc, source, &mut image, second + area_len)?
+        && is_same(source, &image, first)?
+        && is_same(source, &image, second)?
+        && is_same(source, &image, first)?;
+    Ok(if is_same { Some(image) } else { None })
 }
 
 // The superblock of a disk that has the length for it, and its bytes.
@@ -63,7 +67,8 @@ fn front_of<S: Source>(source: &mut S) -> Result<(Superblock, [u8; 32]), Refusal
     Ok((superblock, front))
 }
 
-// Reads the area at the image's end. Returns whether it was the same area all the time.
+// Reads the area that follows the image, up to its end. Returns whether its generation was the same
+// before.
 fn read_area<S: Source>(
     alloc: Global,
     source: &mut S,
@@ -75,25 +80,24 @@ fn read_area<S: Source>(
     ensures len { OnOk result (length image.new.items ≡ end) }
     ensures front { S.still → IsFrontOf (S.content source.old) image.old.items
         → OnOk result (IsFrontOf (S.content source.old) image.new.items) }
-    ensures still { S.still → IsFrontOf (S.content source.old) image.old.items
+    ensures there { S.still → IsFrontOf (S.content source.old) image.old.items
         → IfOk result (λ is_same. is_same ≡ true) }
     ensures same { S.still → S.content source.new ≡ S.content source.old }
     ensures same_length { length (S.content source.new) ≡ length (S.content source.old) }
 {
-    let start = image.len();
+    let generation_at = image.len() + GENERATION_AT;
+    let mut generation = [0; GENERATION];
+    read(source, generation_at as u64, &mut generation)?;
     read_on(alloc, source, image, 1)?;
-    let is_open = image.last() == Some(&OPEN);
-    if is_open {
+    if image.last() == Some(&OPEN) {
         read_journal(alloc, source, image, end)?;
     }
-    let is_same = !is_open || is_same(source, image, start)?;
     let left = end - image.len();
     read_on(alloc, source, image, left)?;
-    Ok(is_same)
+    Ok(has(image, generation_at, &generation))
 }
 
-// Reads an open area after its gate: the header, the records and the batches, each gate before what
-// follows it.
+// Reads an open area after its gate: the header, the records and the batches.
 fn read_journal<S: Source>(
     alloc: Global,
     source: &mut S,
@@ -123,8 +127,8 @@ fn read_journal<S: Source>(
 }
 
 // Reads this number of bytes, the gate after them and, if that is open, the head of its batch.
-// Returns the length of that batch's entries. `None` also for a length that the area hasn't, which
-// an area that is written anew may seem to have.
+// Returns the length of that batch's entries. `None` also for a length that the area hasn't, as one
+// that is written anew may seem to have.
 fn read_next<S: Source>(
     alloc: Global,
     source: &mut S,
@@ -154,18 +158,30 @@ fn read_next<S: Source>(
     Ok(Some(u64::from(BigEndian::read_u32(&image[head..]))))
 }
 
-// Whether the area that begins at this place of an image is still the same.
+// Whether the area that begins at this place has the image's gate and, after that, its generation.
 fn is_same<S: Source>(source: &mut S, image: &[u8], start: usize) -> Result<bool, Refusal>
-    requires within { start + LIFE ≤ length image.now }
+    requires within { start + GENERATION_AT + GENERATION ≤ length image.now }
     requires end { length image.now ≤ length (S.content source.old) }
-    ensures still { S.still → IsFrontOf (S.content source.old) image.now
+    ensures there { S.still → IsFrontOf (S.content source.old) image.now
         → IfOk result (λ is_same. is_same ≡ true) }
     ensures same { S.still → S.content source.new ≡ S.content source.old }
     ensures same_length { length (S.content source.new) ≡ length (S.content source.old) }
 {
-    let mut life = [0; LIFE];
-    read(source, start as u64, &mut life)?;
-    Ok(image[start..start + LIFE] == life)
+    let mut gate = [0; 1];
+    read(source, start as u64, &mut gate)?;
+    let generation_at = start + GENERATION_AT;
+    let mut generation = [0; GENERATION];
+    read(source, generation_at as u64, &mut generation)?;
+    Ok(has(image, start, &gate) && has(image, generation_at, &generation))
+}
+
+// Whether an image has these bytes at this place.
+fn has(image: &[u8], at: usize, bytes: &[u8]) -> bool
+    requires { at + length bytes.now ≤ length image.now }
+    ensures there { (content : List ℕ) → IsFrontOf content image.now
+        → bytes.now ≡ take (length bytes.now) (drop at content) → result ≡ true }
+{
+    image[at..at + bytes.len()] == bytes[..]
 }
 
 // Reads this number of bytes more of a source, after the image.
