@@ -1,7 +1,10 @@
 // One life of a server.
-ghost use Rattle.std.specs.Prelude.{◌≡◌, ◌≢◌, ◌≤◌, ◌+◌, length, sum, Err, IfErr, IfOk};
-ghost use Rattle.std.specs.Prelude.{ℕ, cond, map, slice_get, IsErr, MatchResult, None, Some};
+ghost use Rattle.std.specs.Prelude.{◌≡◌, ◌≢◌, ◌<◌, ◌≤◌, ◌+◌, length, sum, Err, IfErr, IfOk};
+ghost use Rattle.std.specs.Prelude.{ℕ, cond, false, is_some, map, slice_get, true, IfSome, IsErr};
+ghost use Rattle.std.specs.Prelude.{MatchResult, None, Some};
 ghost use Rattle.lnsd_links.specs.declared.door.Entrance.TheVariants.{Filled};
+ghost use Rattle.lnsd_links.specs.Names.{count};
+ghost use Rattle.lnsd_links.specs.declared.allowance.CopyRate.TheVariants.{PerSecond};
 ghost use Rattle.lnsd_links.specs.declared.link.Link.{Link};
 ghost use Rattle.lw_types.specs.declared.refusal.Refusal.TheVariants.{OutOfMemory, OutOfStep};
 ghost use Rattle.lnsd_operator.specs.declared.fault.ServeFault.TheVariants.{Refused};
@@ -191,7 +194,9 @@ fn listed<S: NameSource>(
     names: Option<&S>,
     places: PlaceCount,
 ) -> Result<(Policy, Option<NameList>), ServeFault>
-    ensures { IfErr result IsOfBeginning }
+    ensures names { IfOk result (λ life. is_some life.1 ≡ is_some names) }
+    ensures few { IfOk result (λ life. IfSome life.1 (λ list. count list < places)) }
+    ensures refused { IfErr result IsOfBeginning }
 {
     let Some(source) = names else {
         return Ok((anew(false), None));
@@ -215,7 +220,16 @@ const ONCE: Policy = Policy {
 
 // A life whose links come and go. If the names that may greet are listed, the links that haven't
 // greeted share a second while all places are taken.
-fn anew(is_listed: bool) -> Policy {
+fn anew(is_listed: bool) -> Policy
+    ensures { result ≡ record {
+      greeting_wait = Some 10000;
+      takes_over = true;
+      keeps_links = false;
+      crowded_wait = cond is_listed (Some 1000) None;
+      lines_wait = true;
+      copies = PerSecond 1000 400;
+    } }
+{
     Policy {
         greeting_wait: Some(10_000),
         takes_over: true,

@@ -1,13 +1,12 @@
 -- Which gateways and applications have links.
 use Rattle.std.specs.Prelude.{◌≡◌, ◌≢◌, ◌+◌, ◌&&◌, ◌||◌, ℕ, Bool, Option, Some, None, is_none}
-use Rattle.std.specs.Prelude.{is_some, List, length, false, nat_eq, nat_lt, not, slice_index_or}
-use Rattle.std.specs.Prelude.{true}
-use Rattle.std.specs.List.{any, find}
+use Rattle.std.specs.Prelude.{is_some, List, length, nat_eq, nat_lt, not, slice_index_or, true}
+use Rattle.std.specs.List.{find}
 use Rattle.std.specs.Option.{option_map, option_map_or}
 use Rattle.lw_types.specs.declared.identifiers.Eui.{Eui}
 use Rattle.gateway_wire.specs.declared.recipient.Recipient.{Recipient}
 use Rattle.gateway_wire.specs.declared.recipient.Recipient.TheVariants.{Gateway, Application}
-use Rattle.lnsd_links.specs.declared.name_list.NameList.{NameList}
+use Rattle.lnsd_links.specs.Names.{has_name}
 use Rattle.lnsd_links.specs.declared.names.Directory.{Directory}
 use Rattle.lnsd_links.specs.declared.names.HeldName.{HeldName}
 use Rattle.lnsd_links.specs.declared.names.LinkedGateway.{LinkedGateway}
@@ -43,11 +42,6 @@ ring_of directory (Application application) =
 abbrev pub has_free_link : Directory → Recipient → Bool
 has_free_link directory (Gateway gateway) = nat_lt (length directory.gateways.items) MOST_GATEWAYS
 has_free_link directory (Application application) = Bool.true
-
--- a list has this name
-abbrev pub has_name : NameList → Recipient → Bool
-has_name list (Gateway gateway) = any (λ listed. nat_eq listed.0 gateway.0) list.gateways.items
-has_name list (Application application) = slice_index_or list.applications application false
 
 -- this name is one of those that may greet; every name is if there is no list
 abbrev pub is_listed : Directory → Recipient → Bool

@@ -32,8 +32,14 @@ pub const NO_NAMES: &str = "no names\n";
 // off.
 const WHOLE: &str = "\n";
 
-// How long an operator may send nothing, or read nothing, in seconds.
+// How long an operator may read nothing, in seconds.
 const PATIENCE: u64 = 2;
+
+// How long one read of an order waits, in milliseconds. An operator who has sent nothing meanwhile
+// is given up if each attendant has an operator, and otherwise after this number of such reads.
+const QUIET: u64 = 100;
+
+const QUIET_READS: u32 = 20;
 
 // How long one write to an operator who watches waits for room, in seconds.
 const WATCHER_WAIT: u64 = 1;
@@ -84,11 +90,11 @@ impl<'x, B: Books, R: Wait, G: Gate, C: LifeClock, S: NameSource> Attendant<'x, 
         let Ok(shown) = stream.try_clone() else {
             return;
         };
-        self.control.show(self.context.rt, self.number, Some(shown));
+        self.control.show(self.context.rt, self.number, shown);
         if !self.is_over() {
             self.obey(stream);
         }
-        self.control.show(self.context.rt, self.number, None);
+        self.control.hide(self.context.rt, self.number);
     }
 
     // An operator whose line is no order, or who doesn't read the answer, is given up.
@@ -98,7 +104,7 @@ impl<'x, B: Books, R: Wait, G: Gate, C: LifeClock, S: NameSource> Attendant<'x, 
             self.context.alloc,
             self.context.clock.now(),
         );
-        match read_order(&stream) {
+        match self.read_order(&stream) {
             Some(Order::Stop) => {
                 self.control.keep_waiting(rt, stream);
                 self.server.end(rt);
@@ -115,6 +121,34 @@ impl<'x, B: Books, R: Wait, G: Gate, C: LifeClock, S: NameSource> Attendant<'x, 
             Some(Order::Reload) => tell_text(&stream, self.reload()),
             None => {}
         }
+    }
+
+    // The order of an operator, up to a newline.
+    fn read_order(&self, stream: &UnixStream) -> Option<Order> {
+        let mut stream = stream;
+        stream
+            .set_read_timeout(Some(Duration::from_millis(QUIET)))
+            .ok()?;
+        let mut line = [0u8; LONGEST_ORDER];
+        let mut len: usize = 0;
+        let mut quiet = 0;
+        for _ in 0..QUIET_READS + LONGEST_ORDER as u32 {
+            match stream.read(line.get_mut(len..)?) {
+                Ok(0) => return None,
+                Ok(count) => len = len.saturating_add(count),
+                Err(error) if is_passing(error.kind()) => {
+                    quiet += 1;
+                    if quiet >= QUIET_READS || self.control.is_crowded() {
+                        return None;
+                    }
+                }
+                Err(_) => return None,
+            }
+            if let Some(word) = line.get(..len)?.strip_suffix(b"\n") {
+                return order_of(word);
+            }
+        }
+        None
     }
 
     // Reads the list of the names that may greet again, and returns the answer. If that fails, the
@@ -220,28 +254,6 @@ fn has_gone(stream: &UnixStream) -> bool {
         Ok(_) => true,
         Err(error) => !is_passing(error.kind()),
     }
-}
-
-// The order of an operator, up to a newline.
-fn read_order(stream: &UnixStream) -> Option<Order> {
-    let mut stream = stream;
-    stream
-        .set_read_timeout(Some(Duration::from_secs(PATIENCE)))
-        .ok()?;
-    let mut line = [0u8; LONGEST_ORDER];
-    let mut len: usize = 0;
-    for _ in 0..LONGEST_ORDER {
-        let rest = line.get_mut(len..)?;
-        let count = stream.read(rest).ok()?;
-        if count == 0 {
-            return None;
-        }
-        len = len.saturating_add(count);
-        if let Some(word) = line.get(..len)?.strip_suffix(b"\n") {
-            return order_of(word);
-        }
-    }
-    None
 }
 
 // The order of this word, if there is one.
