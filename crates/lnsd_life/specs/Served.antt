@@ -6,7 +6,7 @@ use Rattle.lw_types.specs.declared.refusal.Refusal.TheVariants.{Damaged, DeviceF
 use Rattle.lw_types.specs.declared.refusal.Refusal.TheVariants.{OutOfMemory, OutOfStep}
 use Rattle.lnsd_life.specs.declared.report.LifeReport.{LifeReport}
 use Rattle.lnsd_operator.specs.declared.fault.ServeFault.{ServeFault}
-use Rattle.lnsd_operator.specs.declared.fault.ServeFault.TheVariants.{Listen, Refused}
+use Rattle.lnsd_operator.specs.declared.fault.ServeFault.TheVariants.{Listen, Names, Refused}
 use Rattle.sessions.specs.Table.{TableState}
 use Rattle.store.specs.declared.areas.TheConstants.{LAST_GENERATION}
 use Rattle.store.specs.declared.store.Store.{Store}
@@ -36,10 +36,12 @@ IsRefused disk old new Damaged =
     × (LAST_GENERATION ≤ (store_state disk.state new).log.generation)
 IsRefused disk old new other = ⊥
 
--- why a life has no report: links couldn't come in, or it was refused
+-- why a life has no report: links couldn't come in, the names that may greet weren't taken, or it
+-- was refused
 abbrev pub IsFaultOf : {D : Type 0} (disk : Ghosts D) → Store D disk → Store D disk → ServeFault
     → Type 0
 IsFaultOf disk old new Listen = new ≡ old
+IsFaultOf disk old new (Names fault) = new ≡ old
 IsFaultOf disk old new (Refused refusal) = IsRefused disk old new refusal
 
 -- why a life that ended well gives no report: memory ran out, or the number decided isn't the

@@ -45,16 +45,24 @@ pub(crate) fn flush<B: Books, R: Wait, D: Disk>(
     ensures lives { D.honest
         → IsLedOn (store_state D.state store.old) (store_state D.state store.new) }
 {
+    let durable = &server.signals.counts.durable;
+    durable.raise(store.seq());
+    let mut taken = store.seq();
     let mut outlets = outlets;
     let mut feed = Drawn::new(rt, &server.sessions, taker);
     let mut is_ticked = false;
     let served = {
         let mut out = |released: Vec<Released>| {
+            // what was taken before the last release is durable now: at most the batch of this
+            // release was taken by then
+            durable.raise(taken);
+            taken = taken_so_far(rt, server);
             let_out(rt, alloc, server, outlets.as_mut_slice(), released);
             tell_times(rt, server, times);
         };
         // a checkpoint may be written with no batch after it
         let mut done = || {
+            durable.raise(taken_so_far(rt, server));
             tell_times(rt, server, times);
             is_done(rt, server, &mut is_ticked)
         };
@@ -66,7 +74,15 @@ pub(crate) fn flush<B: Books, R: Wait, D: Disk>(
     finish(outlets);
     server.ring_senders();
     served?;
+    durable.raise(store.seq());
     Ok(feed.share())
+}
+
+// The number of the last decision that the flusher has taken.
+fn taken_so_far<B: Books, R: Wait>(rt: &R, server: &LiveServer<B>) -> u64 {
+    let sessions = server.sessions.lock(rt);
+    let core = sessions.core();
+    core.seq().saturating_sub(core.untaken() as u64)
 }
 
 // Ends these rings: nothing more comes through them.

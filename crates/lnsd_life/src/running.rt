@@ -6,6 +6,7 @@ ghost use Rattle.lnsd_life.specs.Served.{IsRun};
 use crate::flushing::flush;
 use crate::parts::{LinkParts, Parts};
 use disk::Disk;
+use lnsd_links::NameSource;
 use lnsd_operator::ATTENDANTS;
 use lnsd_threads::{
     Attendant, Closer, Context, Gate, LifeClock, LiveServer, OnBegun, Worker, start,
@@ -36,10 +37,12 @@ pub(crate) fn run<
     D: Disk + Drop,
     G: Gate + Sync,
     C: LifeClock + Sync,
+    S: NameSource + Sync,
     N: OnBegun,
 >(
     context: &'x Context<'x, R, G, C>,
     server: &'x LiveServer<B>,
+    names: Option<&'x S>,
     store: Store<D>,
     taker: Taker<B>,
     parts: Parts<B>,
@@ -52,7 +55,7 @@ pub(crate) fn run<
         context.rt,
         move |scope|
             ensures { IsRun D.Disk store taker result.result result.store }
-        { run_in(scope, context, server, store, taker, parts, on_begun) },
+        { run_in(scope, context, server, names, store, taker, parts, on_begun) },
     )
 }
 
@@ -64,11 +67,13 @@ fn run_in<
     D: Disk + Drop,
     G: Gate + Sync,
     C: LifeClock + Sync,
+    S: NameSource + Sync,
     N: OnBegun,
 >(
     scope: &Scope<'s, E>,
     context: &'s Context<'s, R, G, C>,
     server: &'s LiveServer<B>,
+    names: Option<&'s S>,
     store: Store<D>,
     taker: Taker<B>,
     parts: Parts<B>,
@@ -92,7 +97,7 @@ fn run_in<
     };
     let name = String::from_str(context.alloc, "closer");
     started.keep_seated(start(scope, name, move || closer.run()));
-    started.start_attendants(scope, context, server);
+    started.start_attendants(scope, context, server, names);
     let mut store = store;
     let result = if started.is_whole {
         on_begun.begun();
@@ -159,11 +164,19 @@ impl<B: Books + Send + Sync> Started<B> {
         self.keep_seated(start(scope, name, move || worker.run()));
     }
 
-    fn start_attendants<'s, E, R: Threads + Wait + Sync, G: Gate + Sync, C: LifeClock + Sync>(
+    fn start_attendants<
+        's,
+        E,
+        R: Threads + Wait + Sync,
+        G: Gate + Sync,
+        C: LifeClock + Sync,
+        S: NameSource + Sync,
+    >(
         &mut self,
         scope: &Scope<'s, E>,
         context: &'s Context<'s, R, G, C>,
         server: &'s LiveServer<B>,
+        names: Option<&'s S>,
     )
         ensures whole { IsTrue self.new.is_whole → IsTrue self.old.is_whole
             × (IsSome server.now.control → length self.new.attendants.items
@@ -177,6 +190,7 @@ impl<B: Books + Send + Sync> Started<B> {
         for number in 0..ATTENDANTS {
             let attendant = Attendant {
                 context,
+                names,
                 server,
                 control,
                 number,

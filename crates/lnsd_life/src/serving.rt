@@ -1,7 +1,10 @@
 // One life of a server.
-ghost use Rattle.std.specs.Prelude.{◌≡◌, ◌≢◌, ◌≤◌, ◌+◌, length, sum, Err, IfErr, IfOk};
-ghost use Rattle.std.specs.Prelude.{ℕ, cond, map, slice_get, IsErr, MatchResult, None, Some};
+ghost use Rattle.std.specs.Prelude.{◌≡◌, ◌≢◌, ◌<◌, ◌≤◌, ◌+◌, length, sum, Err, IfErr, IfOk};
+ghost use Rattle.std.specs.Prelude.{ℕ, cond, false, is_some, map, slice_get, true, IfSome, IsErr};
+ghost use Rattle.std.specs.Prelude.{MatchResult, None, Some};
 ghost use Rattle.lnsd_links.specs.declared.door.Entrance.TheVariants.{Filled};
+ghost use Rattle.lnsd_links.specs.Names.{count};
+ghost use Rattle.lnsd_links.specs.declared.allowance.CopyRate.TheVariants.{PerSecond};
 ghost use Rattle.lnsd_links.specs.declared.link.Link.{Link};
 ghost use Rattle.lw_types.specs.declared.refusal.Refusal.TheVariants.{OutOfMemory, OutOfStep};
 ghost use Rattle.lnsd_operator.specs.declared.fault.ServeFault.TheVariants.{Refused};
@@ -15,8 +18,9 @@ use crate::running::{LifeEnd, run};
 use crate::{LifeReport, ServedLife};
 use disk::Disk;
 use lnsd_links::{
-    Directory, Door, Entrance, Link, LinkCount, OwnRing, PlaceCount, Policy, Signals, WaitingLines,
-    accept, empty_places,
+    CopyCount, CopyRate, Directory, Door, Entrance, Link, LinkCount, NameList, NameListFault,
+    NameSource, OwnRing, PlaceCount, Policy, Signals, WaitingLines, accept, empty_places,
+    read_names,
 };
 use lnsd_operator::{ControlSocket, Counts, DiskTimes, ServeFault};
 use lnsd_threads::{Context, Gate, LifeClock, LiveServer, NobodyTold, OnBegun};
@@ -94,9 +98,10 @@ pub fn serve_links<
         places: links.get(),
         entrance: Entrance::Filled(streams),
         policy: ONCE,
+        names: None,
         control: None,
     };
-    begin(&context, store, beginning, &mut NobodyTold)
+    begin(&context, None::<&NoNames>, store, beginning, &mut NobodyTold)
 }
 
 /// Serves links that come in through a listener, as many at a time as there are places, until the
@@ -120,6 +125,14 @@ pub fn serve_links<
 /// The connection of an operator who sends nothing for two seconds is closed. What operators see of
 /// the disk is in `times`.
 ///
+/// If `names` is given, only the names of its list may greet. The list is read when the life begins,
+/// and again when an operator orders it with [`Order::Reload`]. A life doesn't begin with a list
+/// that isn't taken, or that has as many names as there are places or more. A link that greets with
+/// another name is closed and counted, and takes no name over. A new list closes the links whose
+/// names it doesn't have; a list that isn't taken leaves the old one. While all places are taken, a
+/// link has to greet within a second divided by the number of links that haven't greeted, so that
+/// silent links don't keep a listed name out.
+///
 /// `on_begun` is called when every thread of the life runs. If a thread can't be started, it isn't
 /// called, and the life is refused with `OutOfMemory`.
 pub fn serve_on<
@@ -128,6 +141,7 @@ pub fn serve_on<
     D: Disk + Drop,
     G: Gate + Sync,
     C: LifeClock + Sync,
+    S: NameSource + Sync,
     N: OnBegun,
 >(
     rt: &'x R,
@@ -136,6 +150,7 @@ pub fn serve_on<
     listener: TcpListener,
     control: UnixListener,
     count: PlaceCount,
+    names: Option<&'x S>,
     gate: &'x G,
     clock: &'x C,
     times: &'x DiskTimes,
@@ -159,13 +174,38 @@ pub fn serve_on<
         clock,
         times: Some(times),
     };
+    let (policy, list) = match listed(names, count) {
+        Ok(listed) => listed,
+        Err(fault) => return failed(alloc, store, fault),
+    };
     let beginning = Beginning {
         places: count.get(),
         entrance: Entrance::Open(door),
-        policy: ANEW,
+        policy,
+        names: list,
         control: Some(control),
     };
-    begin(&context, store, beginning, on_begun)
+    begin(&context, names, store, beginning, on_begun)
+}
+
+// The policy of a life whose links come and go, and the list of the names that may greet, if there
+// is one. It has fewer names than this number of places.
+fn listed<S: NameSource>(
+    names: Option<&S>,
+    places: PlaceCount,
+) -> Result<(Policy, Option<NameList>), ServeFault>
+    ensures names { IfOk result (λ life. is_some life.1 ≡ is_some names) }
+    ensures few { IfOk result (λ life. IfSome life.1 (λ list. count list < places)) }
+    ensures refused { IfErr result IsOfBeginning }
+{
+    let Some(source) = names else {
+        return Ok((anew(false), None));
+    };
+    match read_names(source, places.get() as usize) {
+        Ok(list) => Ok((anew(true), Some(list))),
+        Err(NameListFault::OutOfMemory) => Err(ServeFault::Refused(Refusal::OutOfMemory)),
+        Err(fault) => Err(ServeFault::Names(fault)),
+    }
 }
 
 // A life whose links come before it begins, and stay.
@@ -173,16 +213,44 @@ const ONCE: Policy = Policy {
     greeting_wait: None,
     takes_over: false,
     keeps_links: true,
+    crowded_wait: None,
     lines_wait: false,
+    copies: CopyRate::Unlimited,
 };
 
-// A life whose links come and go.
-const ANEW: Policy = Policy {
-    greeting_wait: Some(10_000),
-    takes_over: true,
-    keeps_links: false,
-    lines_wait: true,
-};
+// A life whose links come and go. If the names that may greet are listed, the links that haven't
+// greeted share a second while all places are taken.
+fn anew(is_listed: bool) -> Policy
+    ensures { result ≡ record {
+      greeting_wait = Some 10000;
+      takes_over = true;
+      keeps_links = false;
+      crowded_wait = cond is_listed (Some 1000) None;
+      lines_wait = true;
+      copies = PerSecond 1000 400;
+    } }
+{
+    Policy {
+        greeting_wait: Some(10_000),
+        takes_over: true,
+        keeps_links: false,
+        crowded_wait: if is_listed { Some(1000) } else { None },
+        lines_wait: true,
+        copies: CopyRate::PerSecond {
+            copies: CopyCount::new(1000).unwrap(),
+            burst: CopyCount::new(400).unwrap(),
+        },
+    }
+}
+
+// No list: every name may greet.
+struct NoNames;
+
+impl NameSource for NoNames {
+    fn read(&self) -> Result<NameList, NameListFault> {
+        Err(NameListFault::File)
+    }
+}
 
 // What a life begins with: the number of its places, where its links and its operators come from,
 // and what it does with its links. If the links come before, each place has one.
@@ -191,6 +259,8 @@ struct Beginning {
     places: u64,
     entrance: Entrance,
     policy: Policy,
+    // The names that may greet; every name may if there is no list.
+    names: Option<NameList>,
     control: Option<ControlSocket>,
     ghost few: { places ≤ 96 },
     ghost filled: { (streams : _) → entrance ≡ Filled streams
@@ -198,8 +268,16 @@ struct Beginning {
 }
 
 // Begins a life.
-fn begin<R: Threads + Wait + Sync, D: Disk + Drop, G: Gate + Sync, C: LifeClock + Sync, N: OnBegun>(
+fn begin<
+    R: Threads + Wait + Sync,
+    D: Disk + Drop,
+    G: Gate + Sync,
+    C: LifeClock + Sync,
+    S: NameSource + Sync,
+    N: OnBegun,
+>(
     context: &Context<'_, R, G, C>,
+    source: Option<&S>,
     store: Store<D>,
     beginning: Beginning,
     on_begun: &mut N,
@@ -220,7 +298,9 @@ fn begin<R: Threads + Wait + Sync, D: Disk + Drop, G: Gate + Sync, C: LifeClock 
     let places = Places { links, beginning };
     let (made, taken) = (Blank::new(seats), Blank::new(1));
     let history = BlankHistory::new();
-    serve_life::<Brand, R, D, G, C, N>(context, store, places, core, made, taken, history, on_begun)
+    serve_life::<Brand, R, D, G, C, S, N>(
+        context, source, store, places, core, made, taken, history, on_begun,
+    )
 }
 
 // The result of a life that isn't begun.
@@ -252,9 +332,11 @@ fn serve_life<
     D: Disk + Drop,
     G: Gate + Sync,
     C: LifeClock + Sync,
+    S: NameSource + Sync,
     N: OnBegun,
 >(
     context: &Context<'_, R, G, C>,
+    source: Option<&S>,
     store: Store<D>,
     places: Places,
     core: Core,
@@ -275,24 +357,26 @@ fn serve_life<
 {
     let all = places.links.len() as u64 + 1;
     let (mut shared, taker) = Shared::<B>::new(core, all, made, taken, history);
-    if places.beginning.control.is_some() {
-        shared.observe();
-    }
-    let Equipment {
-        parts,
-        directory,
-        lines,
-    } = match Equipment::new(context.alloc, &mut shared, &places) {
-        Ok(equipment) => equipment,
-        Err(refusal) => return failed(context.alloc, store, ServeFault::Refused(refusal)),
-    };
     let Places { links, beginning } = places;
     let Beginning {
         entrance,
         policy,
+        names,
         control,
         ..
     } = beginning;
+    if control.is_some() {
+        shared.observe();
+    }
+    let made = Equipment::new(context.alloc, &mut shared, links.len(), &policy, names);
+    let Equipment {
+        parts,
+        directory,
+        lines,
+    } = match made {
+        Ok(equipment) => equipment,
+        Err(refusal) => return failed(context.alloc, store, ServeFault::Refused(refusal)),
+    };
     let server = LiveServer {
         signals: Signals::new(links.len() as u64),
         links,
@@ -303,7 +387,7 @@ fn serve_life<
         directory: Mutex::new(directory),
         lines,
     };
-    let end = run(&*context, &server, store, taker, parts, on_begun);
+    let end = run(&*context, &server, source, store, taker, parts, on_begun);
     served_life(context.alloc, server, all, end)
 }
 
@@ -364,19 +448,26 @@ struct Equipment<B: Books> {
 
 impl<B: Books> Equipment<B> {
     // No links yet. If lines wait, applications have rings of their own, after those of the links.
-    fn new(alloc: Global, shared: &mut Shared<B>, places: &Places) -> Result<Self, Refusal>
-        requires { shared.old.left ≡ length places.now.links.items + 1 }
+    // Only the names of the list may greet, if there is one.
+    fn new(
+        alloc: Global,
+        shared: &mut Shared<B>,
+        links: usize,
+        policy: &Policy,
+        names: Option<NameList>,
+    ) -> Result<Self, Refusal>
+        requires few { links ≤ 96 }
+        requires seats { shared.old.left ≡ links + 1 }
         ensures rings { IfOk result (λ equipment. equipment.directory.first_ring
-            ≡ cond places.now.beginning.policy.lines_wait
-            (Some (length places.now.links.items)) None) }
+            ≡ cond policy.now.lines_wait (Some links) None) }
+        ensures names { IfOk result (λ equipment. equipment.directory.listed ≡ names) }
         ensures lines { IfOk result (λ equipment. (application : ℕ) (waiting : WaitingLines)
             → slice_get equipment.lines.items application ≡ Some waiting
             → waiting.application ≡ application) }
         ensures refused { IfErr result (λ e. e ≡ OutOfMemory) }
     {
-        let links = places.links.len();
         let mut parts = Parts::new(alloc, shared, links)?;
-        let (first_ring, lines) = if places.beginning.policy.lines_wait {
+        let (first_ring, lines) = if policy.lines_wait {
             let rings = parts.add_lines(alloc)?;
             (Some(links as u16), waiting_lines(alloc, rings)?)
         } else {
@@ -384,7 +475,7 @@ impl<B: Books> Equipment<B> {
         };
         Ok(Equipment {
             parts,
-            directory: Directory::new(alloc, first_ring)?,
+            directory: Directory::new(alloc, first_ring, names)?,
             lines,
         })
     }

@@ -2,10 +2,12 @@
 //! rings through which effects come, and the signals between the threads.
 #![tactic(auto)]
 
+mod allowance;
 mod door;
 mod gathering;
 pub mod laws;
 mod link;
+mod name_list;
 mod names;
 mod outgoing;
 mod policy;
@@ -15,13 +17,18 @@ mod signals;
 mod stacks;
 mod writing;
 
+pub use allowance::{Allowance, CopyCount, CopyRate};
 pub use door::{Door, Entrance};
 pub use gathering::drop_all;
 pub use link::{
     ClosedLink, LeftLink, Link, LinkCount, MOST_PLACES, Named, PlaceCount, accept, empty_places,
     set_options,
 };
-pub use names::{APPLICATIONS, Directory, Full, HeldName, LeftName, LinkedGateway, MOST_GATEWAYS};
+pub use lnsd_operator::NameListFault;
+pub use name_list::{NameList, NameSource, read_names};
+pub use names::{
+    APPLICATIONS, Directory, HeldName, LeftName, LinkedGateway, MOST_GATEWAYS, Ungranted,
+};
 pub use outgoing::Outgoing;
 pub use policy::Policy;
 pub use rings::{OwnRing, PLACES, WaitingLines};

@@ -43,6 +43,8 @@ pub struct Link {
     // The current link, so that others can close it.
     current: Mutex<Option<TcpStream>>,
     pub bell: Parker,
+    // Wakes the worker of this place while it waits before it hands in copies.
+    pub pause: Parker,
     // What the senders of this place use in turn; `None` while a sender has it.
     pub spare: Mutex<Option<Spare>>,
     // The current link has ended: nothing more comes for it.
@@ -84,6 +86,7 @@ impl Link {
             place,
             current: Mutex::new(None),
             bell: Parker::new(),
+            pause: Parker::new(),
             spare: Mutex::new(None),
             over: AtomicBool::new(false),
             taken: AtomicBool::new(false),
@@ -112,11 +115,13 @@ impl Link {
     pub fn close<R: Wait>(&self, rt: &R) {
         self.shut(rt, Shutdown::Both);
         self.bell.unpark();
+        self.pause.unpark();
     }
 
     /// Ends the input of the current link, after what has come.
     pub fn close_input<R: Wait>(&self, rt: &R) {
         self.shut(rt, Shutdown::Read);
+        self.pause.unpark();
     }
 
     fn shut<R: Wait>(&self, rt: &R, how: Shutdown) {

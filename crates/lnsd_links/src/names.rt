@@ -3,6 +3,7 @@ ghost use Rattle.std.specs.Prelude.{◌≡◌, ◌≤◌, ℕ, length, vec_capac
 ghost use Rattle.std.specs.Prelude.{None, Some};
 
 use crate::link::{ClosedLink, Link};
+use crate::name_list::NameList;
 use devices::Application;
 use gateway_wire::Recipient;
 use lw_types::Eui;
@@ -69,6 +70,8 @@ pub struct Directory {
     applications: [Option<usize>; APPLICATIONS],
     // The ring of application 0; those of the others come after it.
     first_ring: Option<u16>,
+    // The names that may greet. Without a list every name may.
+    listed: Option<NameList>,
     ghost few: { length gateways.items ≤ 64 },
     ghost room: { 64 ≤ vec_capacity gateways },
 }
@@ -84,60 +87,116 @@ fn close_older<R: Wait>(rt: &R, links: &[Link], was: Option<usize>) -> Option<Cl
     Some(link.take(rt))
 }
 
-/// Sixty-four other gateways have links.
+// Closes the link of a name that isn't listed, if it has one.
+fn close_unlisted<R: Wait>(
+    rt: &R,
+    links: &[Link],
+    list: &NameList,
+    name: Recipient,
+    link: Option<usize>,
+) {
+    if !list.has(&name) {
+        close_older(rt, links, link);
+    }
+}
+
+/// Why a link isn't given a name.
 #[derive(Clone, Copy, Debug, PartialEq, Eq)]
-pub struct Full;
+pub enum Ungranted {
+    /// The name isn't one of those that may greet.
+    Unlisted,
+    /// Another link has the name.
+    Taken,
+    /// Sixty-four other gateways have links.
+    Full,
+}
 
 impl Directory {
     ghost use Rattle.std.specs.Prelude.{◌≢◌, ◌↔◌, ◌<◌, IsSome, IfOk, IsOk, IsTrue};
-    ghost use Rattle.std.specs.Prelude.{IfSome, MatchBool, MatchResult};
-    ghost use Rattle.std.specs.Option.{MatchOption};
+    ghost use Rattle.std.specs.Prelude.{Err, MatchBool, MatchResult, false};
     ghost use Rattle.gateway_wire.specs.declared.recipient.Recipient.TheVariants as names;
     ghost use Rattle.lw_types.specs.declared.identifiers.Eui.{Eui};
     ghost use Rattle.lnsd_links.specs.Linked.{gateway_link, link_of, ring_of};
-    ghost use Rattle.lnsd_links.specs.Linked.{may_greet, may_take_over, IsHeld, IsLinked};
-    ghost use Rattle.lnsd_links.specs.Linked.{IsUnlinked};
+    ghost use Rattle.lnsd_links.specs.Linked.{is_listed, may_greet, may_take_over, IsHeld};
+    ghost use Rattle.lnsd_links.specs.Linked.{IsLinked, IsUnlinked};
+    ghost use Rattle.lnsd_links.specs.declared.names.Ungranted.TheVariants.{Unlisted};
 
     /// A directory without links. If `first_ring` is given, applications have rings of their own,
-    /// from that one on. All the memory that it ever needs is taken here.
-    pub fn new(alloc: Global, first_ring: Option<u16>) -> Result<Self, AllocError>
+    /// from that one on. If `listed` is given, only its names may greet. All the memory that it
+    /// ever needs is taken here.
+    pub fn new(
+        alloc: Global,
+        first_ring: Option<u16>,
+        listed: Option<NameList>,
+    ) -> Result<Self, AllocError>
         ensures links { IfOk result
             (λ directory. (name : Recipient) → link_of directory name ≡ None) }
         ensures rings { IfOk result (λ directory. directory.first_ring ≡ first_ring) }
+        ensures listed { IfOk result (λ directory. directory.listed ≡ listed) }
     {
         Ok(Directory {
             gateways: Vec::with_capacity(alloc, MOST_GATEWAYS)?,
             applications: [None; APPLICATIONS],
             first_ring,
+            listed,
         })
     }
 
-    /// Gives a link the name with which a gateway or an application greets, if no link has this
-    /// name and, for a gateway, fewer than 64 have links. Otherwise nothing is changed.
-    pub fn greet(&mut self, name: &Recipient, link: usize) -> Option<HeldName>
-        ensures granted { IsSome result ↔ IsTrue (may_greet self.old name.now) }
-        ensures held { IfSome result (IsHeld name.now link) }
-        ensures named { MatchOption result (self.new ≡ self.old)
-            (λ _. IsLinked self.old name.now link self.new) }
+    /// Whether a gateway or an application may greet: every one may if there is no list.
+    pub fn is_listed(&self, name: &Recipient) -> bool
+        ensures { result ≡ is_listed self.now name.now }
     {
-        if self.link_of(name).is_some() {
-            return None;
+        match &self.listed {
+            Some(list) => list.has(name),
+            None => true,
         }
-        let (held, _) = self.give(name, link).ok()?;
-        Some(held)
+    }
+
+    /// Replaces the list of the names that may greet, and closes the links whose names aren't
+    /// listed any more. Their workers leave the names.
+    pub fn relist<R: Wait>(&mut self, rt: &R, links: &[Link], list: NameList)
+        ensures { self.new ≡ record self.old { listed = Some list } }
+    {
+        for linked in &self.gateways {
+            close_unlisted(rt, links, &list, Recipient::Gateway(linked.gateway), Some(linked.link));
+        }
+        for (number, link) in self.applications.iter().enumerate() {
+            if let Some(application) = Application::new(number as u64) {
+                close_unlisted(rt, links, &list, Recipient::Application(application), *link);
+            }
+        }
+        self.listed = Some(list);
+    }
+
+    /// Gives a link the name with which a gateway or an application greets, if the name is listed,
+    /// no link has it and, for a gateway, fewer than 64 have links. Otherwise nothing is changed.
+    pub fn greet(&mut self, name: &Recipient, link: usize) -> Result<HeldName, Ungranted>
+        ensures granted { IsOk result ↔ IsTrue (may_greet self.old name.now) }
+        ensures held { IfOk result (IsHeld name.now link) }
+        ensures named { MatchResult result (λ _. IsLinked self.old name.now link self.new)
+            (λ _. self.new ≡ self.old) }
+        ensures unlisted { (result ≡ Err Unlisted) ↔ (is_listed self.old name.now ≡ false) }
+    {
+        if self.is_listed(name) && self.link_of(name).is_some() {
+            return Err(Ungranted::Taken);
+        }
+        let (held, _) = self.give(name, link)?;
+        Ok(held)
     }
 
     /// Gives a link the name with which a gateway or an application greets, and closes the link of
-    /// `links` that had the name until now. Returns `Full` for one more gateway if 64 others have
-    /// links; then nothing is changed. There is no other way to take a name over, so a caller that
-    /// locks the directory keeps it locked until the older link is closed.
+    /// `links` that had the name until now. Returns `Unlisted` for a name that isn't listed, and
+    /// `Full` for one more gateway if 64 others have links; then nothing is changed. There is no
+    /// other way to take a name over, so a caller that locks the directory keeps it locked until
+    /// the older link is closed.
     pub fn take_over<R: Wait>(
         &mut self,
         rt: &R,
         links: &[Link],
         name: &Recipient,
         link: usize,
-    ) -> Result<(HeldName, Option<ClosedLink>), Full>
+    ) -> Result<(HeldName, Option<ClosedLink>), Ungranted>
+        ensures unlisted { (result ≡ Err Unlisted) ↔ (is_listed self.old name.now ≡ false) }
         ensures granted { IsOk result ↔ IsTrue (may_take_over self.old name.now) }
         ensures held { IfOk result (λ taken. IsHeld name.now link taken.0) }
         ensures named { MatchResult result (λ _. IsLinked self.old name.now link self.new)
@@ -153,7 +212,12 @@ impl Directory {
     }
 
     // Gives a link a name, and returns the link that had it until now.
-    fn give(&mut self, name: &Recipient, link: usize) -> Result<(HeldName, Option<usize>), Full>
+    fn give(
+        &mut self,
+        name: &Recipient,
+        link: usize,
+    ) -> Result<(HeldName, Option<usize>), Ungranted>
+        ensures unlisted { (result ≡ Err Unlisted) ↔ (is_listed self.old name.now ≡ false) }
         ensures granted { IsOk result ↔ IsTrue (may_take_over self.old name.now) }
         ensures held { IfOk result (λ taken. IsHeld name.now link taken.0) }
         ensures named { MatchResult result
@@ -161,6 +225,9 @@ impl Directory {
             × IsLinked self.old name.now link self.new)
             (λ _. self.new ≡ self.old) }
     {
+        if !self.is_listed(name) {
+            return Err(Ungranted::Unlisted);
+        }
         let was = match name {
             Recipient::Gateway(gateway) => self.take_over_gateway(*gateway, link)?,
             Recipient::Application(application) => {
@@ -173,7 +240,7 @@ impl Directory {
         Ok((HeldName { name: *name, link }, was))
     }
 
-    fn take_over_gateway(&mut self, gateway: Eui, link: usize) -> Result<Option<usize>, Full>
+    fn take_over_gateway(&mut self, gateway: Eui, link: usize) -> Result<Option<usize>, Ungranted>
         ensures granted { IsOk result ↔ IsTrue (may_take_over self.old (names.Gateway gateway)) }
         ensures named { MatchResult result
             (λ was. (was ≡ link_of self.old (names.Gateway gateway))
@@ -182,12 +249,12 @@ impl Directory {
     {
         let was = self.gateway_link(gateway);
         if was.is_none() && self.gateways.len() >= MOST_GATEWAYS {
-            return Err(Full);
+            return Err(Ungranted::Full);
         }
         self.forget_gateway(gateway);
         match self.gateways.push(LinkedGateway { gateway, link }) {
             Ok(()) => Ok(was),
-            Err(_) => Err(Full),
+            Err(_) => Err(Ungranted::Full),
         }
     }
 
@@ -229,6 +296,7 @@ impl Directory {
             → length self.new.gateways.items < length self.old.gateways.items }
         ensures applications { self.new.applications ≡ self.old.applications }
         ensures rings { self.new.first_ring ≡ self.old.first_ring }
+        ensures listed { self.new.listed ≡ self.old.listed }
     {
         self.gateways.retain(|linked| linked.gateway.0 != gateway.0);
     }

@@ -17,6 +17,8 @@ pub struct Signals {
     pub counts: Counts,
     // The number of links in their places.
     linked: AtomicU64,
+    // The number of these that haven't greeted.
+    strangers: AtomicU64,
     // How far the life has come, by the stage's number.
     stage: AtomicU64,
     // The store is at fault, and the links are closed.
@@ -69,6 +71,7 @@ impl Signals {
             open_inputs: AtomicU64::new(workers),
             counts: Counts::new(),
             linked: AtomicU64::new(0),
+            strangers: AtomicU64::new(0),
             stage: AtomicU64::new(LifeStage::Serving.number()),
             stopped: AtomicBool::new(false),
             closer_idle: AtomicBool::new(false),
@@ -90,6 +93,24 @@ impl Signals {
 
     pub fn linked(&self) -> u64 {
         self.linked.load(SeqCst)
+    }
+
+    /// Counts a link that hasn't greeted.
+    pub fn count_stranger(&self) {
+        self.strangers.fetch_add(1, SeqCst);
+    }
+
+    /// Counts a link that has greeted, or isn't asked to any more.
+    pub fn count_known(&self) {
+        self.strangers.fetch_sub(1, SeqCst);
+    }
+
+    /// The number of links that haven't greeted, if all places are taken.
+    pub fn crowd(&self) -> Option<u64> {
+        if self.linked() < self.workers {
+            return None;
+        }
+        Some(self.strangers.load(SeqCst))
     }
 
     /// Says that the life has come as far as this stage, at least.

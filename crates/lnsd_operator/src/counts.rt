@@ -20,6 +20,25 @@ impl Count {
     }
 }
 
+/// A number that only grows, which one thread sets and others read.
+#[derive(Drop)]
+pub struct Mark(AtomicU64);
+
+impl Mark {
+    fn zero() -> Self {
+        Mark(AtomicU64::new(0))
+    }
+
+    /// Sets the number, unless it is higher already.
+    pub fn raise(&self, number: u64) {
+        self.0.fetch_max(number, SeqCst);
+    }
+
+    pub fn get(&self) -> u64 {
+        self.0.load(SeqCst)
+    }
+}
+
 /// What is counted since a life began.
 #[derive(Drop)]
 pub struct Counts {
@@ -31,8 +50,14 @@ pub struct Counts {
     pub taken_over: Count,
     /// Links that didn't greet in time.
     pub silent: Count,
+    /// Links whose names aren't listed.
+    pub unlisted: Count,
+    /// How often a worker waited before it handed in copies.
+    pub slowed: Count,
     /// How often decisions became durable.
     pub commits: Count,
+    /// The number of a decision that is durable, and so are all before it.
+    pub durable: Mark,
 }
 
 impl Counts {
@@ -43,7 +68,10 @@ impl Counts {
             dropped: Count::zero(),
             taken_over: Count::zero(),
             silent: Count::zero(),
+            unlisted: Count::zero(),
+            slowed: Count::zero(),
             commits: Count::zero(),
+            durable: Mark::zero(),
         }
     }
 }

@@ -14,9 +14,9 @@ mod timed;
 mod watching;
 
 pub use control::{ATTENDANTS, ControlSocket};
-pub use counts::{Count, Counts};
+pub use counts::{Count, Counts, Mark};
 pub use disk_times::DiskTimes;
-pub use fault::ServeFault;
+pub use fault::{NameListFault, ServeFault};
 pub use frame_name::FrameName;
 pub use last_uplinks::LastUplinks;
 pub use orders::Order;

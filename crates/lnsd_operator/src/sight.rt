@@ -30,6 +30,8 @@ pub enum Sight {
     Faulted(Option<Recipient>),
     /// A link didn't greet in time.
     Silent,
+    /// A link greeted with a name that isn't listed, and is closed.
+    Unlisted(Recipient),
     /// This number of effects for this name weren't sent.
     Dropped(Recipient, u64),
     /// The whole table was written to the disk.
@@ -92,6 +94,7 @@ impl Sight {
             Sight::Faulted(Some(name)) => link_line(alloc, "faulted", name),
             Sight::Faulted(None) => String::from_str(alloc, "faulted"),
             Sight::Silent => String::from_str(alloc, "silent"),
+            Sight::Unlisted(name) => link_line(alloc, "unlisted", name),
             Sight::Dropped(name, count) => {
                 let name = name_words(alloc, name)?;
                 format!(in alloc; "dropped {name} {count}")

@@ -1,7 +1,9 @@
 // The worker of a place, which takes one link after another.
-ghost use Rattle.std.specs.Prelude.{◌≡◌, ◌-◌, ◌↔◌, IfSome, IsSome, IsTrue, None, Some, cond, max};
-ghost use Rattle.std.specs.Prelude.{option_map};
-ghost use Rattle.lnsd_links.specs.Linked.{IsHeld, may_greet, may_take_over};
+ghost use Rattle.std.specs.Prelude.{◌≡◌, ◌<◌, ◌+◌, ◌-◌, ◌/◌, ◌↔◌, ℕ, Err, IfOk, IfSome, IsOk};
+ghost use Rattle.std.specs.Prelude.{IsTrue, None, Some, cond, false, max, option_map};
+ghost use Rattle.lnsd_links.specs.Linked.{IsHeld, is_listed, may_greet, may_take_over};
+ghost use Rattle.lnsd_links.specs.declared.names.Ungranted.TheVariants.{Unlisted};
+ghost use Rattle.lnsd_links.specs.declared.allowance.CopyRate.TheVariants.{PerSecond, Unlimited};
 ghost use Rattle.lnsd_links.specs.declared.link.LeftLink.{LeftLink};
 ghost use Rattle.lnsd_threads.specs.declared.hosting.Farewell.TheVariants.{Left};
 ghost use Rattle.lnsd_threads.specs.Hearing.{CameWithGreeting};
@@ -14,12 +16,12 @@ use crate::{Gate, LifeClock, moved_on};
 use gateway_wire::Recipient;
 use link_messages::{Fed, Feeder};
 use lnsd_links::{
-    Call, ClosedLink, Directory, Ending, HeldName, HostSender, LeftLink, Link, PLACES, drop_all,
-    set_options,
+    Allowance, Call, ClosedLink, Directory, Ending, HeldName, HostSender, LeftLink, Link, PLACES,
+    Policy, Ungranted, drop_all, set_options,
 };
 use lnsd_operator::Sight;
 use lw_types::Refusal;
-use rtrb::{Consumer, RingBuffer};
+use rtrb::{Consumer, Producer, RingBuffer};
 use session_core::{Books, Moment, Seat};
 use std::net::TcpStream;
 use std::sync::Wait;
@@ -30,6 +32,10 @@ use std::time::Duration;
 // How long a read waits after that time is over, in milliseconds: the shortest time that a read may
 // wait.
 const SHORTEST_WAIT: u64 = 1;
+
+// After how many milliseconds a worker looks again how long its link has to greet, if that may get
+// shorter.
+const LOOK_WAIT: u64 = 20;
 
 // The pause after a failed accept, in seconds. An accept fails if the process has no descriptors
 // left, or no memory.
@@ -102,7 +108,10 @@ impl<'x, B: Books, R: Threads + Wait + Sync, G: Gate, C: LifeClock> Worker<'x, B
     fn welcome(&mut self, stream: TcpStream) {
         let context = self.context;
         self.feeder = Feeder::new(context.alloc);
-        let Some(greeted) = self.hear_greeting(&stream) else {
+        self.server.signals.count_stranger();
+        let greeted = self.hear_greeting(&stream);
+        self.server.signals.count_known();
+        let Some(greeted) = greeted else {
             return;
         };
         // each link has its own ring of refusals, so that no refusal goes to the next link; if
@@ -112,10 +121,25 @@ impl<'x, B: Books, R: Threads + Wait + Sync, G: Gate, C: LifeClock> Worker<'x, B
         };
         let name = greeted.name;
         if let Some(held) = self.take_over(&name) {
-            self.refusals = refused;
+            self.begin_link(refused);
             let _ = self.converse(stream, greeted, refusals, held);
             self.drop_rest(name);
         }
+    }
+
+    // Gives the link its own ring of refusals, and an allowance of which nothing was earned yet.
+    fn begin_link(&mut self, refused: Producer<Refusal>)
+        ensures same { self.new ≡ record self.old
+            { refusals = refused; allowance = self.new.allowance } }
+        ensures unlimited { self.old.server.now.policy.copies ≡ Unlimited
+            → self.new.allowance ≡ None }
+        ensures limited { (copies : ℕ) (burst : ℕ)
+            → self.old.server.now.policy.copies ≡ PerSecond copies burst
+            → (now : ℕ) × (self.new.allowance ≡ Some (record
+              { per_second = copies; burst = burst; level = 0; at = now })) }
+    {
+        self.refusals = refused;
+        self.allowance = Allowance::new(self.server.policy.copies, self.context.clock.now());
     }
 
     fn converse(
@@ -185,8 +209,9 @@ fn hold<'s, 'x: 's, E, B: Books, R: Threads + Wait + Sync, G: Gate, C: LifeClock
     worker.end_link(held, sending.is_some())
 }
 
-// Gives a link a name: one that another link has only if names are taken over. Then the other link
-// is closed. Returns the name that the link holds then, and that another link was closed.
+// Gives a link a name that is listed: one that another link has only if names are taken over. Then
+// the other link is closed. Returns the name that the link holds then, and that another link was
+// closed.
 fn named<R: Wait>(
     rt: &R,
     directory: &mut Directory,
@@ -194,17 +219,18 @@ fn named<R: Wait>(
     name: &Recipient,
     link: usize,
     takes_over: bool,
-) -> Option<(HeldName, Option<ClosedLink>)>
-    ensures held { IfSome result (λ named. IsHeld name.now link named.0) }
-    ensures granted { IsSome result ↔ IsTrue (cond takes_over
+) -> Result<(HeldName, Option<ClosedLink>), Ungranted>
+    ensures held { IfOk result (λ named. IsHeld name.now link named.0) }
+    ensures granted { IsOk result ↔ IsTrue (cond takes_over
         (may_take_over directory.old name.now) (may_greet directory.old name.now)) }
+    ensures unlisted { (result ≡ Err Unlisted) ↔ (is_listed directory.old name.now ≡ false) }
 {
     if takes_over {
-        return directory.take_over(rt, links, name, link).ok();
+        return directory.take_over(rt, links, name, link);
     }
     match directory.greet(name, link) {
-        Some(held) => Some((held, None)),
-        None => None,
+        Ok(held) => Ok((held, None)),
+        Err(ungranted) => Err(ungranted),
     }
 }
 
@@ -214,6 +240,53 @@ fn wait_until(now: Moment, until: Moment) -> u64
     ensures { result ≡ max (until - now) 1 }
 {
     until.get().saturating_sub(now.get()).max(SHORTEST_WAIT)
+}
+
+// How long a link has to greet, in milliseconds, if that is limited. `crowd` is the number of links
+// that haven't greeted, if all places are taken.
+fn greeting_time(policy: &Policy, crowd: Option<u64>) -> Option<u64>
+    ensures calm { crowd ≡ None → result ≡ policy.now.greeting_wait }
+    ensures alike { policy.now.crowded_wait ≡ None → result ≡ policy.now.greeting_wait }
+    ensures crowded { (wait : ℕ) (links : ℕ) → policy.now.crowded_wait ≡ Some wait
+        → crowd ≡ Some links → result ≡ Some (wait / max links 1) }
+{
+    match (policy.crowded_wait, crowd) {
+        (Some(wait), Some(crowd)) => Some(wait / crowd.max(1)),
+        _ => policy.greeting_wait,
+    }
+}
+
+// A read of a link that hasn't greeted.
+#[derive(Clone, Copy)]
+struct Look {
+    // How long it waits, in milliseconds, if that is limited.
+    wait: Option<u64>,
+    // If nothing came meanwhile, the link's time is over.
+    is_last: bool,
+}
+
+impl Look {
+    // The read of a link whose time ends at this moment, if it does. If the time may get shorter
+    // meanwhile, the read waits only until that is to be looked at again.
+    fn new(policy: &Policy, now: Moment, until: Option<Moment>) -> Self
+        ensures last { IsTrue result.is_last
+            → result.wait ≡ option_map (λ moment. max (moment - now) 1) until }
+        ensures alike { policy.now.crowded_wait ≡ None → IsTrue result.is_last }
+        ensures short { result.is_last ≡ false
+            → (result.wait ≡ Some 20) × IfSome until (λ moment. now + 20 < moment) }
+    {
+        let wait = until.map(|until| wait_until(now, until));
+        match (policy.crowded_wait, wait) {
+            (Some(_), Some(wait)) if wait > LOOK_WAIT => Look {
+                wait: Some(LOOK_WAIT),
+                is_last: false,
+            },
+            _ => Look {
+                wait,
+                is_last: true,
+            },
+        }
+    }
 }
 
 impl<'x, B: Books, R: Wait, G: Gate, C: LifeClock> Worker<'x, B, R, G, C> {
@@ -227,15 +300,10 @@ impl<'x, B: Books, R: Wait, G: Gate, C: LifeClock> Worker<'x, B, R, G, C> {
             self.new.feeder) }
         ensures same { self.new ≡ record self.old { feeder = self.new.feeder } }
     {
-        let until = self.greeting_end();
+        let since = self.context.clock.now();
         let mut buffer = [0u8; PIECE];
         for _ in self.context.rt.forever() {
-            let incoming = if self.limit_wait(stream, &until) {
-                read_some(stream, &mut buffer)
-            } else {
-                Incoming::Late
-            };
-            match incoming {
+            match self.next_piece(stream, since, &mut buffer) {
                 Incoming::Nothing => {}
                 Incoming::Late => {
                     self.server.signals.counts.silent.add(1);
@@ -266,22 +334,29 @@ impl<'x, B: Books, R: Wait, G: Gate, C: LifeClock> Worker<'x, B, R, G, C> {
         None
     }
 
-    // Until when a link has to greet that comes now, if its time is limited.
-    fn greeting_end(&self) -> Option<Moment> {
-        let wait = self.server.policy.greeting_wait?;
-        Some(moved_on(self.context.clock.now(), wait))
+    // The next bytes of a link that came at this moment and hasn't greeted; `Late` if its time is
+    // over.
+    fn next_piece(&self, stream: &TcpStream, since: Moment, buffer: &mut [u8]) -> Incoming {
+        let look = self.look(since);
+        if let Some(wait) = look.wait
+            && stream
+                .set_read_timeout(Some(Duration::from_millis(wait)))
+                .is_err()
+        {
+            return Incoming::Late;
+        }
+        match read_some(stream, buffer) {
+            Incoming::Late if !look.is_last => Incoming::Nothing,
+            incoming => incoming,
+        }
     }
 
-    // Limits how long reads wait, up to this moment, if there is one. Returns whether that can be
-    // done.
-    fn limit_wait(&self, stream: &TcpStream, until: &Option<Moment>) -> bool {
-        let Some(until) = until else {
-            return true;
-        };
-        let wait = wait_until(self.context.clock.now(), *until);
-        stream
-            .set_read_timeout(Some(Duration::from_millis(wait)))
-            .is_ok()
+    // How long the next read of a link waits that came at this moment and hasn't greeted.
+    fn look(&self, since: Moment) -> Look {
+        let policy = &self.server.policy;
+        let now = self.context.clock.now();
+        let time = greeting_time(policy, self.server.signals.crowd());
+        Look::new(policy, now, time.map(|time| moved_on(since, time)))
     }
 
     // Gives the link its name, and closes the link that had it, if names are taken over. The
@@ -296,9 +371,17 @@ impl<'x, B: Books, R: Wait, G: Gate, C: LifeClock> Worker<'x, B, R, G, C> {
         let takes_over = self.server.policy.takes_over;
         let mut directory = self.server.directory.lock(rt);
         let named = named(rt, &mut directory, links, name, self.number, takes_over);
-        let Some((held, taken)) = named else {
-            self.count_fault();
-            return None;
+        let (held, taken) = match named {
+            Ok(given) => given,
+            Err(Ungranted::Unlisted) => {
+                self.server.signals.counts.unlisted.add(1);
+                self.server.tell(rt, Sight::Unlisted(*name));
+                return None;
+            }
+            Err(_) => {
+                self.count_fault();
+                return None;
+            }
         };
         if taken.is_some() {
             self.server.signals.counts.taken_over.add(1);

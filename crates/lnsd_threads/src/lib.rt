@@ -17,7 +17,7 @@ mod server;
 mod status;
 mod threads;
 
-pub use attending::{Attendant, BUSY, WATCHING};
+pub use attending::{Attendant, BUSY, NO_NAMES, RELOADED, WATCHING};
 pub use closing::Closer;
 pub use context::Context;
 pub use gate::{Gate, NobodyTold, OnBegun, OpenGate};

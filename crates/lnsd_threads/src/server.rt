@@ -7,16 +7,16 @@ ghost use Rattle.lnsd_links.specs.declared.rings.WaitingLines.{WaitingLines};
 ghost use Rattle.lw_types.specs.declared.identifiers.Eui.{Eui};
 
 use gateway_wire::Recipient;
-use lnsd_links::{Directory, Entrance, LifeStage, Link, Policy, Signals, WaitingLines};
+use lnsd_links::{Directory, Entrance, LifeStage, Link, NameList, Policy, Signals, WaitingLines};
 use lnsd_operator::ControlSocket;
 use session_core::{Books, Shared};
 use std::sync::{Mutex, Wait};
 
 /// The links, the data behind locks, and the signals. No thread holds both locks at once, nor one
 /// of them while it reads, writes or syncs. While the directory is locked, a greeting closes an
-/// older link of its name, and sends an event to the operators who watch. This takes the locks of
-/// that link's socket and of the watchers' places; nothing else takes a lock while the directory is
-/// locked.
+/// older link of its name, and sends an event to the operators who watch; and a new list of names
+/// closes links. This takes the locks of these links' sockets and of the watchers' places; nothing
+/// else takes a lock while the directory is locked.
 #[derive(Drop)]
 pub struct LiveServer<B: Books> {
     pub links: Vec<Link>,
@@ -54,6 +54,13 @@ impl<B: Books> LiveServer<B> {
         for link in &self.links {
             link.close_input(rt);
         }
+    }
+
+    /// Replaces the list of the names that may greet, and closes the links whose names aren't
+    /// listed any more.
+    pub(crate) fn relist<R: Wait>(&self, rt: &R, list: NameList) {
+        let links = self.links.as_slice();
+        self.directory.lock(rt).relist(rt, links, list);
     }
 
     /// The lines that wait for an application, if applications have rings of their own.

@@ -102,6 +102,8 @@ pub(crate) fn status_text<B: Books, R: Wait>(
         ("faulted", counts.faulted.get()),
         ("taken_over", counts.taken_over.get()),
         ("silent", counts.silent.get()),
+        ("unlisted", counts.unlisted.get()),
+        ("slowed", counts.slowed.get()),
     ]);
     if let Some(times) = times {
         lines.add_counts(&[
@@ -130,6 +132,8 @@ fn add_links<B: Books, R: Wait>(rt: &R, server: &LiveServer<B>, lines: &mut Stat
 }
 
 fn add_sessions<B: Books, R: Wait>(rt: &R, server: &LiveServer<B>, lines: &mut StatusLines) {
+    // before the lock is taken, so that no decision is counted as durable and not as made
+    let durable = server.signals.counts.durable.get();
     let sessions = server.sessions.lock(rt);
     let core = sessions.core();
     let counts = [
@@ -139,6 +143,7 @@ fn add_sessions<B: Books, R: Wait>(rt: &R, server: &LiveServer<B>, lines: &mut S
         ("waiting", core.untaken() as u64),
         ("made", core.made()),
         ("decided", core.seq()),
+        ("durable", durable),
     ];
     drop(sessions);
     lines.add_counts(&counts);

@@ -18,11 +18,15 @@ mod held_tests;
 #[cfg(test)]
 mod lives;
 #[cfg(test)]
+mod names_tests;
+#[cfg(test)]
 mod places_tests;
 #[cfg(test)]
 mod rows_tests;
 #[cfg(test)]
 mod sights_tests;
+#[cfg(test)]
+mod talk;
 #[cfg(test)]
 mod wire;
 #[cfg(test)]
