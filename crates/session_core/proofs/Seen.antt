@@ -16,7 +16,7 @@ use Rattle.session_core.specs.declared.observed.ClosedFrame.{ClosedFrame}
 use Rattle.session_core.specs.declared.turn.Turn.{Turn}
 use Rattle.session_core.proofs.Windows.{due-none, due-some, hands-clock, hands-windows}
 
--- what windows were closed, whoever observes
+-- which windows were closed, without what observers are given
 pub closes-unseen : (n : ℕ) (old new : CoreState) (before after : ObservedState) → ClosesSeen n old new before after → Closes n old new
 closes-unseen zero old new before after h = h.0
 closes-unseen (suc n) old new before after (mid, (between, (rest, (closes, kept)))) = (mid, closes-unseen n old mid before between rest, closes)
@@ -60,15 +60,16 @@ module _ (old mid : CoreState) (answer : Result (Unit {0}) Refusal) (hands : Han
   closed-seen after heard before observed memory oldest kept =
       let same : oldest.window ∷ after ≡ hands.oldest.window ∷ hands.rest = sym oldest.oldest ∙ (hands-windows old answer mid hands ∙ hands.oldest.oldest) in
       let is : heard ≡ hands.heard =
-      oldest.heard_in_it ∙ (ap heard_in (same_head oldest.window hands.oldest.window after hands.rest same) ∙ sym hands.oldest.heard_in_it) in
-      (record {
-        result = answer;
-        between = mid;
-        handed_in = hands;
-        there_was_memory = memory;
-        new_is = ap (λ (l : List Window). record mid { windows = l }) (same_tail oldest.window hands.oldest.window after hands.rest same);
-      },
-      subst (λ h. KeepsFrame before (closed_frame h answer mid.decisions) observed) is kept)
+      oldest.heard_in_it ∙ (ap heard_in (same_head oldest.window hands.oldest.window after hands.rest same) ∙ sym hands.oldest.heard_in_it) in (
+        record {
+          result = answer;
+          between = mid;
+          handed_in = hands;
+          there_was_memory = memory;
+          new_is = ap (λ (l : List Window). record mid { windows = l }) (same_tail oldest.window hands.oldest.window after hands.rest same);
+        },
+        subst (λ h. KeepsFrame before (closed_frame h answer mid.decisions) observed) is kept,
+      )
 
 -- ---- turns
 
@@ -76,23 +77,29 @@ module _ (old between new : CoreState) (moment : ℕ) (event : Event) (turn : Tu
     (closed : HasClosedSeen (core_at_moment old moment) between before after) (from : turn.from ≡ old.decisions.made) (to : turn.to ≡ new.decisions.made) where
   -- an event whose own work was done
   pub seen-own : has_due between ≡ false → work_of event between turn.refused new → IsSeenTurn old moment event turn new before after
-  seen-own none own = (record {
-    between = between;
-    closed = has-closed (core_at_moment old moment) between before after closed;
-    own = subst (λ b. MatchBool b (Starves between turn.refused new) (work_of event between turn.refused new)) (sym none) own;
-    from = from;
-    to = to;
-  }, closed)
+  seen-own none own = (
+    record {
+      between = between;
+      closed = has-closed (core_at_moment old moment) between before after closed;
+      own = subst (λ b. MatchBool b (Starves between turn.refused new) (work_of event between turn.refused new)) (sym none) own;
+      from = from;
+      to = to;
+    },
+    closed,
+  )
 
   -- and one for whose closings memory ran out
   pub seen-starved : has_due between ≡ true → turn.refused ≡ Some OutOfMemory → new ≡ between → IsSeenTurn old moment event turn new before after
-  seen-starved some refused same = (record {
-    between = between;
-    closed = has-closed (core_at_moment old moment) between before after closed;
-    own = subst (λ b. MatchBool b (Starves between turn.refused new) (work_of event between turn.refused new)) (sym some) (refused, same);
-    from = from;
-    to = to;
-  }, closed)
+  seen-starved some refused same = (
+    record {
+      between = between;
+      closed = has-closed (core_at_moment old moment) between before after closed;
+      own = subst (λ b. MatchBool b (Starves between turn.refused new) (work_of event between turn.refused new)) (sym some) (refused, same);
+      from = from;
+      to = to;
+    },
+    closed,
+  )
 
 pub starved-both : (b : Bool) (s new : CoreState) (refused : Option Refusal) → Starves s refused new → MatchBool b (Starves s refused new) (Starves s refused new)
 starved-both true s new refused h = h
@@ -121,6 +128,8 @@ pub seen-frames : (old new : CoreState) (moment : ℕ) (event : Event) (turn : T
     → IsSeenTurn old moment event turn new (nothing_seen is_kept) (frames_seen is_kept frames lacks)
 seen-frames old new moment event turn is_kept before after frames lacks nothing are is (turned, seen) =
     let kept : after.is_kept ≡ is_kept = closes-kept turned.between.closings (core_at_moment old moment) seen.last before after seen.closed ∙ ap (λ (s : ObservedState). s.is_kept) nothing in
-    let all : after ≡ frames_seen is_kept frames lacks = ap (λ k. frames_seen k after.frames after.lacks) kept ∙ (ap (λ l. frames_seen is_kept l after.lacks) (sym are) ∙ ap (frames_seen is_kept frames) (sym is)) in
-    (turned, subst (λ s. HasClosedSeen (core_at_moment old moment) turned.between s (frames_seen is_kept frames lacks)) nothing
-    (subst (HasClosedSeen (core_at_moment old moment) turned.between before) all seen))
+    let all : after ≡ frames_seen is_kept frames lacks = ap (λ k. frames_seen k after.frames after.lacks) kept ∙ (ap (λ l. frames_seen is_kept l after.lacks) (sym are) ∙ ap (frames_seen is_kept frames) (sym is)) in (
+      turned,
+      subst (λ s. HasClosedSeen (core_at_moment old moment) turned.between s (frames_seen is_kept frames lacks)) nothing
+          (subst (HasClosedSeen (core_at_moment old moment) turned.between before) all seen),
+    )

@@ -1,6 +1,6 @@
 -- The history of a life's decisions, and what an event adds to it.
-use Rattle.std.specs.Prelude.{◌≡◌, ◌≤◌, ◌+◌, ◌==◌, ◌++◌, ◌∷◌, [], ℕ, true, List, All, MatchBool}
-use Rattle.std.specs.Prelude.{drop, length, map, take}
+use Rattle.std.specs.Prelude.{◌≡◌, ◌≤◌, ◌==◌, ◌++◌, ◌∷◌, [], ℕ, true, List, All, MatchBool}
+use Rattle.std.specs.Prelude.{drop, length, map}
 use Rattle.logbook.specs.Pages.{Book, Cell, Named, Step, View}
 use Rattle.devices.specs.declared.command.Command.{Command}
 use Rattle.session_core.specs.State.{DecisionsState}

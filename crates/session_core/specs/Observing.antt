@@ -6,7 +6,6 @@ use Rattle.std.specs.Option.{option_map}
 use Rattle.dedup.specs.declared.TheConstants.{MOST_WINDOWS}
 use Rattle.devices.specs.declared.heard.Heard.{Heard}
 use Rattle.lw_types.specs.declared.refusal.Refusal.{Refusal}
-use Rattle.sessions.specs.declared.decision.Decision.{Decision}
 use Rattle.session_core.specs.Core.{CoreState}
 use Rattle.session_core.specs.Calls.{work_of}
 use Rattle.session_core.specs.Events.{ClosesOldest, IsTurn, core_at_moment}
