@@ -181,6 +181,27 @@ def test_older_copy(served: tuple[Kept, str, Process]) -> None:
     assert kept.stop(kept.serves(file)) >= number
 
 
+def test_one_decision_less(served: tuple[Kept, str, Process]) -> None:
+    """The last decision is in the fence, though no other one follows it: the very file, rolled back
+    by this one decision, is refused."""
+    kept, file, keeper = served
+    before = kept.decide()
+    assert kept.stop(keeper) == before
+    old = Path(file).read_bytes()
+    keeper = kept.serves(file)
+    number = kept.decide()
+    await_that("the fence has the last number", lambda: kept.fence().number == number, LONG)
+    keeper.kill()
+    await_that("the server dies with its keeper", lambda: is_gone(kept, file), LONG)
+    await_lease(kept)
+    true = Path(file).read_bytes()
+    write_into(file, old)
+    due = f"older than what was durable: it is at {before}, and {number} was seen"
+    assert (before, kept.refused(file)) == (number - 1, due)
+    write_into(file, true)
+    assert kept.stop(kept.serves(file)) == number
+
+
 def write_into(file: str, content: bytes) -> None:
     """Other bytes in the very file, as after a snapshot that was rolled back."""
     with open(file, "r+b") as opened:

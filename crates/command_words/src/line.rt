@@ -138,8 +138,8 @@ fn serving_commands<'a>(alloc: Global) -> Result<Command<'a>, AllocError>
     let lnsd = with_command(lnsd, restore(alloc));
     let lnsd = with_command(lnsd, devices(alloc));
     let lnsd = with_command(lnsd, watch(alloc));
-    let lnsd = with_command(lnsd, reload(alloc));
-    with_command(lnsd, copy(alloc))
+    let lnsd = with_command(lnsd, reload_command(alloc));
+    with_command(lnsd, copy_command(alloc))
 }
 
 fn without_commands<'a>(alloc: Global) -> Result<Command<'a>, AllocError>
@@ -285,14 +285,14 @@ fn watch<'a>(alloc: Global) -> Result<Command<'a>, AllocError>
     file_command(alloc, "watch", about, WATCH_EXAMPLE, store_file(alloc))
 }
 
-fn reload<'a>(alloc: Global) -> Result<Command<'a>, AllocError>
+fn reload_command<'a>(alloc: Global) -> Result<Command<'a>, AllocError>
     ensures { IsCommand reload_line result }
 {
     let about = "Has the server that runs on a store read its file of names again";
     file_command(alloc, "reload", about, RELOAD_EXAMPLE, store_file(alloc))
 }
 
-fn copy<'a>(alloc: Global) -> Result<Command<'a>, AllocError>
+fn copy_command<'a>(alloc: Global) -> Result<Command<'a>, AllocError>
     ensures { IsCommand copy_line result }
 {
     let about = "Copies a store, which may be served meanwhile, to a new file for `lnsd restore`";

@@ -1,6 +1,6 @@
 -- Which line says why a command failed, after the line of its fault.
 use Rattle.std.specs.Prelude.{◌≡◌, ℕ, Bool, true, false, List, Option, Some, None, codes}
-use Rattle.std.specs.Prelude.{ErrorKind}
+use Rattle.std.specs.declared.io.ErrorKind.{ErrorKind}
 use Rattle.command_words.specs.declared.mode.Mode.{Mode}
 use Rattle.command_words.specs.declared.mode.Mode.TheVariants as mode
 use Rattle.lnsd_operator.specs.declared.fault.NameListFault.{NameListFault}

@@ -46,7 +46,7 @@ impl ListenCause {
 }
 
 /// The line after that of a fault, if there is one.
-pub(crate) fn cause_of(fault: &Fault) -> Option<&'static str>
+pub(crate) fn cause_line(fault: &Fault) -> Option<&'static str>
     ensures { option_map (λ t. t.now) result ≡ cause_words fault.now }
 {
     match fault {

@@ -2,7 +2,6 @@
 use crate::Fault;
 use lnsd_life::{NameList, NameListFault, NameSource, PlaceCount};
 use lnsd_links::read_names;
-use lw_types::Refusal;
 use std::alloc::Global;
 use std::fs::File;
 use std::io;
@@ -24,17 +23,18 @@ pub(crate) struct NamesFile<'a, R> {
 impl<'a, R: Files<File = File>> NamesFile<'a, R> {
     /// Reads the file, as a life with this number of places does. A fault has its cause.
     pub(crate) fn check(&self, places: PlaceCount) -> Result<(), Fault> {
-        if let Err(error) = self.text() {
-            return Err(if error.kind() == ErrorKind::OutOfMemory {
-                Fault::Refused(Refusal::OutOfMemory)
-            } else {
-                Fault::NamesFile(FileCause::of_opening(error.kind()))
-            });
-        }
         match read_names(self, places.get() as usize) {
             Ok(_) => Ok(()),
-            Err(NameListFault::OutOfMemory) => Err(Fault::Refused(Refusal::OutOfMemory)),
+            Err(NameListFault::File) => Err(Fault::NamesFile(self.cause())),
             Err(fault) => Err(Fault::Names(fault)),
+        }
+    }
+
+    // Why the file can't be read.
+    fn cause(&self) -> FileCause {
+        match self.text() {
+            Ok(_) => FileCause::Other,
+            Err(error) => FileCause::of_opening(error.kind()),
         }
     }
 

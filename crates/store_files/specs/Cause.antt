@@ -1,5 +1,5 @@
 -- Why the system doesn't open or make a file, by its kind of error.
-use Rattle.std.specs.Prelude.{ErrorKind}
+use Rattle.std.specs.declared.io.ErrorKind.{ErrorKind}
 use Rattle.store_files.specs.declared.cause.FileCause.{FileCause}
 use Rattle.store_files.specs.declared.cause.FileCause.TheVariants as cause
 

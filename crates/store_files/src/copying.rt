@@ -1,5 +1,6 @@
 // Copying a store that may be served.
-ghost use Rattle.std.specs.Prelude.{◌≡◌, IfOk, length, string_bytes};
+ghost use Rattle.std.specs.Prelude.{◌≡◌, ◌≢◌, Err, IfOk, length, string_bytes};
+ghost use Rattle.disk.specs.MemDisk.{state_of};
 ghost use Rattle.gateway_wire.specs.DeviceList.{last_line};
 ghost use Rattle.store.specs.State.{IsOpened, store_state};
 
@@ -9,7 +10,7 @@ use crate::source::{Source, StoreFile};
 use crate::FileFault;
 use disk::{FileDisk, MemDisk};
 use lw_types::Refusal;
-use std::alloc::{AllocError, Global};
+use std::alloc::Global;
 use std::fs::File;
 use std::rt::Files;
 use store::{Store, establish_back, open};
@@ -45,7 +46,7 @@ pub fn copy_store<R: Files<File = File>>(
     let store = copied(alloc, &mut source)?;
     let (table, seq) = (store.table().copy()?, store.seq());
     drop(store);
-    let text = copied_text(alloc, table.devices().len(), seq).map_err(no_memory)?;
+    let text = copied_text(alloc, table.devices().len(), seq)?;
     let (disk, made) = create(rt, new, table.slots())?;
     match establish_back(alloc, disk, table, seq) {
         Ok(store) => Ok(CopiedStore { store, text }),
@@ -56,27 +57,30 @@ pub fn copy_store<R: Files<File = File>>(
 /// The store that a source holds, in memory.
 pub fn copied<S: Source>(alloc: Global, source: &mut S) -> Result<Store<MemDisk>, FileFault>
     ensures opened { S.still → IfOk result
-        (λ store. IsOpened (S.content source.old) (store_state MemDisk.state store)) }
+        (λ store. IsOpened (S.content source.old) (store_state state_of store)) }
     ensures changing { S.still → result ≢ Err FileFault.Changing }
     ensures same { S.still → S.content source.new ≡ S.content source.old }
 {
     for _ in 0..TRIES {
         if let Some(image) = image_of(alloc, source)? {
-            let disk = MemDisk::new(alloc, image).map_err(no_memory)?;
-            return Ok(open(alloc, disk)?);
+            return Ok(store_in(alloc, image)?);
         }
     }
     Err(FileFault::Changing)
 }
 
-// The number of devices, and the number of the last decision.
-#[tactic(auto, unfolding(lw_types::specs::Words::line_of))]
-fn copied_text(alloc: Global, devices: usize, seq: u64) -> Result<String, AllocError>
-    ensures { IfOk result (λ text. string_bytes text ≡ last_line devices seq) }
+// The store that an image holds.
+fn store_in(alloc: Global, image: Vec<u8>) -> Result<Store<MemDisk>, Refusal>
+    ensures { IfOk result (λ store. IsOpened image.items (store_state state_of store)) }
 {
-    format!(in alloc; "devices {devices} seq {seq}\n")
+    let disk = MemDisk::new(alloc, image)?;
+    open(alloc, disk)
 }
 
-fn no_memory(_error: AllocError) -> FileFault {
-    FileFault::Refused(Refusal::OutOfMemory)
+// The number of devices, and the number of the last decision.
+#[tactic(auto, unfolding(lw_types::specs::Words::line_of))]
+fn copied_text(alloc: Global, devices: usize, seq: u64) -> Result<String, Refusal>
+    ensures { IfOk result (λ text. string_bytes text ≡ last_line devices seq) }
+{
+    Ok(format!(in alloc; "devices {devices} seq {seq}\n")?)
 }

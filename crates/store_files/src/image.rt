@@ -35,7 +35,7 @@ pub fn image_of<S: Source>(alloc: Global, source: &mut S) -> Result<Option<Vec<u
     ensures same { S.still → S.content source.new ≡ S.content source.old }
     ensures same_length { length (S.content source.new) ≡ length (S.content source.old) }
 {
-    let (superblock, front) = front_of(source)?;
+    let (superblock, front) = superblock_of(source)?;
     let area_len = superblock.area_len() as usize;
     let mut image = Vec::from_slice(alloc, &front)?;
     let (first, second) = (Superblock::LEN, Superblock::LEN + area_len);
@@ -48,7 +48,7 @@ pub fn image_of<S: Source>(alloc: Global, source: &mut S) -> Result<Option<Vec<u
 }
 
 // The superblock of a disk that has the length for it, and its bytes.
-fn front_of<S: Source>(source: &mut S) -> Result<(Superblock, [u8; 32]), Refusal>
+fn superblock_of<S: Source>(source: &mut S) -> Result<(Superblock, [u8; 32]), Refusal>
     ensures size { IfOk result
         (λ r. length (S.content source.old) ≡ disk_len r.0.slots) }
     ensures front { S.still → IfOk result (λ r. r.1 ≡ take 32 (S.content source.old)) }
@@ -59,7 +59,7 @@ fn front_of<S: Source>(source: &mut S) -> Result<(Superblock, [u8; 32]), Refusal
         return Err(Refusal::WrongSize);
     }
     let mut front = [0; Superblock::LEN];
-    read(source, 0, &mut front)?;
+    read_piece(source, 0, &mut front)?;
     let superblock = Superblock::from_bytes(&front)?;
     if source.len() != superblock.disk_len() {
         return Err(Refusal::WrongSize);
@@ -87,7 +87,7 @@ fn read_area<S: Source>(
 {
     let generation_at = image.len() + GENERATION_AT;
     let mut generation = [0; GENERATION];
-    read(source, generation_at as u64, &mut generation)?;
+    read_piece(source, generation_at as u64, &mut generation)?;
     read_on(alloc, source, image, 1)?;
     if image.last() == Some(&OPEN) {
         read_journal(alloc, source, image, end)?;
@@ -168,10 +168,10 @@ fn is_same<S: Source>(source: &mut S, image: &[u8], start: usize) -> Result<bool
     ensures same_length { length (S.content source.new) ≡ length (S.content source.old) }
 {
     let mut gate = [0; 1];
-    read(source, start as u64, &mut gate)?;
+    read_piece(source, start as u64, &mut gate)?;
     let generation_at = start + GENERATION_AT;
     let mut generation = [0; GENERATION];
-    read(source, generation_at as u64, &mut generation)?;
+    read_piece(source, generation_at as u64, &mut generation)?;
     Ok(has(image, start, &gate) && has(image, generation_at, &generation))
 }
 
@@ -199,13 +199,13 @@ fn read_on<S: Source>(
     ensures same_length { length (S.content source.new) ≡ length (S.content source.old) }
 {
     let mut piece = vec![in alloc; 0; len]?;
-    read(source, image.len() as u64, &mut piece)?;
+    read_piece(source, image.len() as u64, &mut piece)?;
     image.extend_from_slice(&piece)?;
     Ok(())
 }
 
 // Fills the buffer with the bytes that begin at a position of a source.
-fn read<S: Source>(source: &mut S, at: u64, buffer: &mut [u8]) -> Result<(), Refusal>
+fn read_piece<S: Source>(source: &mut S, at: u64, buffer: &mut [u8]) -> Result<(), Refusal>
     requires { at + length buffer.old ≤ length (S.content source.old) }
     ensures bytes { S.still → OnOk result
         (buffer.new ≡ take (length buffer.old) (drop at (S.content source.old))) }

@@ -15,7 +15,17 @@ from bozintar.server import Program
 
 from ..conftest import NewServer
 from ..pairs import EUI, HEARD, OWNER, records
-from .writes import HEADER, OPEN, SLOTS, WRITING, Life, Served, decisions_in
+from .writes import (
+    GENERATION_AT,
+    HEADER,
+    OPEN,
+    SLOTS,
+    SUPERBLOCK,
+    WRITING,
+    Life,
+    Served,
+    decisions_in,
+)
 
 # how often a store is copied beside its server's writes
 ROUNDS = 12
@@ -41,6 +51,8 @@ def failure(*lines: str) -> tuple[int, str, str]:
     return 1, "", "".join(f"lnsd: {line}\n" for line in lines)
 
 
+@pytest.mark.slow
+@pytest.mark.usefixtures("proved")
 @pytest.mark.parametrize("most", (1, 2, 30))
 def test_writes_between_reads(
     made: Program, library: str, folder: Path, seed: int, most: int
@@ -77,28 +89,22 @@ def test_plain_copy(made: Program) -> None:
         decisions_in(front + bytes(life.disk[half:]))
 
 
+@pytest.mark.slow
+@pytest.mark.usefixtures("proved")
 def test_area_that_never_stays(made: Program, library: str, folder: Path) -> None:
     """A store whose areas are written anew each time that they are read isn't copied, and no file
     remains."""
-    store = Path(made.store)
-    store.write_bytes(flagged(store.read_bytes()))
-    place, new = 32 + 2, folder / NEW
+    store, new = Path(made.store), folder / NEW
+    place = SUPERBLOCK + GENERATION_AT
     writes = b"".join(
         place.to_bytes(8, "little") + (8).to_bytes(4, "little") + number.to_bytes(8, "big")
         for number in range(2, 100_000)
     )
     (folder / "writes").write_bytes(writes)
     files = {"WRITES": folder / "writes", "MADE": folder / "made", "STORE": store}
-    files = {name: str(file) for name, file in files.items()}
     how = preloads.environment(library, MOST=3, SEED=7, **files)
     assert made.run("copy", made.store, str(new), env=how) == failure("changing")
     assert not new.exists()
-
-
-def flagged(content: bytes) -> bytes:
-    """The store of a server whose first area is the live one."""
-    assert content[32] == OPEN[0]
-    return content
 
 
 @pytest.fixture

@@ -13,7 +13,7 @@ from bozintar import image, load, store
 SLOTS, DECISIONS = 5, 300
 # how many decisions come between two checkpoints: few, so that checkpoints come often
 EACH = 8
-HEADER, SUPERBLOCK = 30, 32
+HEADER, SUPERBLOCK, GENERATION_AT = 30, 32, 2
 OPEN = b"\xa5"
 
 # Before each read at a place of a file, up to MOST of the writes of the file WRITES are made on the
@@ -164,6 +164,6 @@ class Served:
         )
 
     def decisions(self, writes: int) -> int:
-        """How many decisions the server has made after so many writes."""
+        """How many decisions the server has made after this number of writes."""
         self.path.write_bytes(self.empty)
         return Life(self.path).go_on(writes)

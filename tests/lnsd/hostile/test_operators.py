@@ -40,9 +40,11 @@ COPIES = 30_000
 # devices whose queues are filled and emptied, and how often
 QUEUES, ROUNDS = 20, 60
 WATCHING = b"watching\n"
+# silent clients of the control socket, and how long `lnsd stop` may take beside them, in seconds
+MANY, STOPPED = 120, 3
 # how many may watch, and how long the place of one who has gone may be taken, in seconds
 WATCHERS, FREE = 4, 2
-COMMANDS = ("stop", "status", "devices", "watch")
+COMMANDS = ("stop", "status", "devices", "watch", "reload")
 DEVICES = "devices 0 seq 0\n"
 NONSENSE = (b"", b"\n", b"Status\n", b"status", b"status\nstop\n", bytes(40), b"\xff\n")
 # what a server may have sent of its devices when it was broken off, and all of it
@@ -147,6 +149,18 @@ def test_silent_operators(empty: Program) -> None:
     for connection in silent:
         assert all_of(connection) == b""
     assert_stopped(empty)
+
+
+@pytest.mark.timed
+def test_stop_beside_many_silent_operators(empty: Program) -> None:
+    """`lnsd stop` beside 120 clients of the control socket that say nothing, which leave when the
+    server ends, takes three seconds at most."""
+    silent = [operator(empty) for _ in range(MANY)]
+    begun = time.monotonic()
+    assert_stopped(empty)
+    assert time.monotonic() - begun <= STOPPED
+    for connection in silent:
+        connection.close()
 
 
 def test_fifth_watcher(empty: Program, watch: NewWatcher) -> None:

@@ -20,9 +20,10 @@ from .operating import NOTHING_MORE, ORDER, PLACES, assert_stopped, failure, hea
 
 # the names of a status, except the last copies and the moment after them
 NAMES = """listening places links gateways applications devices slots windows waiting made decided
-    commits dropped faulted taken_over silent checkpoints syncs longest_sync_us""".split()
+    durable commits dropped faulted taken_over silent unlisted slowed checkpoints syncs
+    longest_sync_us""".split()
 # those whose values aren't known before
-MEASURED = ("commits", "syncs", "longest_sync_us")
+MEASURED = ("durable", "commits", "syncs", "longest_sync_us")
 SLOW = 0.5
 DEVICE = f"0 {DEV_EUI} 1 1 0 0 0 1"
 COMMANDS = ("stop", "status", "devices", "watch")
@@ -67,6 +68,7 @@ def test_status(server: Program, slow_syncs: dict[str, str]) -> None:
     pair.play()
     linked = {"links": 2, "gateways": 1, "applications": 1, "devices": 1}
     status = status_of(server, (EUI,), made=3, decided=3, **linked)
+    await_status(server, durable=3)
     assert (first["commits"], status["commits"]) == ("0", "3")
     assert 6 <= int(status["syncs"]) - int(first["syncs"]) <= 8
     assert SLOW <= int(status["longest_sync_us"]) / 1e6 < SLOW + 5
@@ -104,7 +106,7 @@ def test_what_waits(server: Program, slow_syncs: dict[str, str]) -> None:
     await_status(server, made=6, waiting=2)
     for _ in range(3):
         pair.hears(f"macqueued {DEV_EUI} 06")
-    await_status(server, waiting=0, commits=5)
+    await_status(server, waiting=0, commits=5, durable=6)
     for link in pair.links():
         link.close()
     await_status(server, links=0)

@@ -11,5 +11,5 @@ returns c =
     let seven = c.with_command-lnsd-7.ensures _ _ six c.restore.ensures in
     let eight = c.with_command-lnsd-8.ensures _ _ seven c.devices.ensures in
     let nine = c.with_command-lnsd-9.ensures _ _ eight c.watch.ensures in
-    let ten = c.with_command-lnsd-10.ensures _ _ nine c.reload.ensures in
-    c.with_command.ensures _ _ ten c.copy.ensures
+    let ten = c.with_command-lnsd-10.ensures _ _ nine c.reload_command.ensures in
+    c.with_command.ensures _ _ ten c.copy_command.ensures

@@ -1,4 +1,4 @@
-use Rattle.command_words.proofs.line.copy.Goals as goal
+use Rattle.command_words.proofs.line.copy_command.Goals as goal
 
 pub returns : goal.returns
 returns c =
