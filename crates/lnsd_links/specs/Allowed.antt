@@ -1,5 +1,5 @@
 -- How fast copies may come on a link.
-use Rattle.std.specs.Prelude.{◌≡◌, ◌≤◌, ◌+◌, ◌-◌, ◌*◌, ℕ, List, [], ◌∷◌, max, min}
+use Rattle.std.specs.Prelude.{◌≡◌, ◌<◌, ◌≤◌, ◌+◌, ◌-◌, ◌*◌, ℕ, List, [], ◌∷◌, max, min}
 use Rattle.lnsd_links.specs.declared.allowance.Allowance.{Allowance}
 
 -- The thousandths of a copy that may come at this moment: what was left, and what was earned in the

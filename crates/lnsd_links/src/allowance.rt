@@ -1,10 +1,4 @@
 // How fast the copies that come on a link are taken.
-ghost use Rattle.std.specs.Prelude.{◌≡◌, ◌<◌, ◌≤◌, ◌+◌, ◌-◌, ◌*◌, ◌^◌, ℕ, MatchResult, Some};
-ghost use Rattle.std.specs.Prelude.{IfErr, None, min};
-ghost use Rattle.std.specs.Int.{div_ceil};
-ghost use Rattle.lnsd_links.specs.declared.allowance.CopyRate.TheVariants.{PerSecond, Unlimited};
-ghost use Rattle.lnsd_links.specs.Allowed.{allowed, IsFirstMoment, IsPaid};
-
 use lw_types::Ranged;
 use session_core::{LAST_MOMENT, Moment};
 
@@ -28,10 +22,15 @@ pub struct Allowance {
     // What may come, in thousandths of a copy, and when that was so.
     level: u64,
     at: Moment,
-    ghost few: { level ≤ burst * 1000 },
 }
 
 impl Allowance {
+    ghost use Rattle.std.specs.Prelude.{◌≡◌, ◌<◌, ◌≤◌, ◌+◌, ◌-◌, ◌*◌, ◌^◌, ℕ, IfErr, MatchResult, None, Some};
+    ghost use Rattle.std.specs.Prelude.{min};
+    ghost use Rattle.std.specs.Int.{div_ceil};
+    ghost use Rattle.lnsd_links.specs.declared.allowance.CopyRate.TheVariants.{PerSecond, Unlimited};
+    ghost use Rattle.lnsd_links.specs.Allowed.{allowed, IsFirstMoment, IsPaid};
+
     /// The allowance of a link that begins now: no copy may come yet. `None` if the link isn't
     /// limited.
     pub fn new(rate: CopyRate, now: Moment) -> Option<Self>
@@ -70,7 +69,8 @@ impl Allowance {
 
     // What may come at this moment, in thousandths of a copy.
     fn level_at(&self, now: Moment) -> u64
-        ensures { result ≡ allowed self.now now }
+        ensures allowed { result ≡ allowed self.now now }
+        ensures few { result ≤ 1000000000 }
     {
         let time = now.get().saturating_sub(self.at.get());
         let more = time.saturating_mul(self.per_second.get());
@@ -81,9 +81,13 @@ impl Allowance {
 
     // The moment at which this has been earned, if it isn't there yet, or the last moment.
     fn moment_of(&self, price: u64) -> Moment
-        ensures { result ≡ min (self.now.at + div_ceil (price - self.now.level) self.now.per_second)
+        ensures moment { result
+            ≡ min (self.now.at + div_ceil (price - self.now.level) self.now.per_second)
             (2 ^ 63 - 1) }
+        ensures rate { 0 < self.now.per_second }
+        ensures burst { self.now.burst ≤ 1000000 }
     {
+        let _burst = self.burst.get();
         let lacking = price.saturating_sub(self.level);
         let wait = lacking.div_ceil(self.per_second.get());
         let moment = self.at.get().saturating_add(wait);

@@ -7,7 +7,9 @@ mod door;
 mod gathering;
 pub mod laws;
 mod link;
+mod name_lines;
 mod name_list;
+mod name_source;
 mod names;
 mod outgoing;
 mod policy;
@@ -25,7 +27,8 @@ pub use link::{
     set_options,
 };
 pub use lnsd_operator::NameListFault;
-pub use name_list::{NameList, NameSource, read_names};
+pub use name_list::NameList;
+pub use name_source::{NameSource, read_names};
 pub use names::{
     APPLICATIONS, Directory, HeldName, LeftName, LinkedGateway, MOST_GATEWAYS, Ungranted,
 };

@@ -1,14 +1,14 @@
 // The names that may greet, if they are listed.
-ghost use Rattle.std.specs.Prelude.{◌≡◌, ◌≢◌, ◌≤◌, ◌<◌, ◌+◌, ◌∷◌, ℕ, IfOk, IfSome, List, Some, length};
-ghost use Rattle.std.specs.Prelude.{MatchOption, MatchResult, false};
+ghost use Rattle.std.specs.Prelude.{◌≡◌, ◌≤◌, ◌<◌, ◌^◌, length};
+ghost use Rattle.std.proofs.Props.{props};
 ghost use Rattle.std.specs.List.{IsDistinct};
-ghost use Rattle.gateway_wire.specs.declared.recipient.Recipient.{Recipient};
-ghost use Rattle.lnsd_links.specs.Names.{is_same_eui, lines_in, lines_of, IsRight, Lists};
+ghost use Rattle.lnsd_links.specs.Same.{is_same_eui};
 
 use crate::names::{APPLICATIONS, MOST_GATEWAYS};
-use gateway_wire::{Recipient, next_ranged, next_value};
+use crate::name_lines::{Lines, is_remark, name_in};
+use gateway_wire::Recipient;
 use lnsd_operator::NameListFault;
-use lw_types::{Eui, Words, laws};
+use lw_types::{Eui, laws};
 use std::alloc::Global;
 
 /// The names that may greet: at most 64 gateways, and applications.
@@ -17,34 +17,14 @@ pub struct NameList {
     gateways: Vec<Eui>,
     applications: [bool; APPLICATIONS],
     ghost few: { length gateways.items ≤ 64 },
-    ghost distinct: { IsDistinct is_same_eui gateways.items },
-}
-
-/// Where the list of the names that may greet is read: when a life begins, and when an operator
-/// asks for it.
-pub trait NameSource {
-    /// Reads the list.
-    fn read(&self) -> Result<NameList, NameListFault>;
-}
-
-/// Reads the list for a life with this number of places. A list of as many names or more is refused
-/// as `Places`: then links that haven't greeted might find no place.
-pub fn read_names<S: NameSource>(source: &S, places: usize) -> Result<NameList, NameListFault>
-    ensures { IfOk result (λ list. count list < places) }
-{
-    let list = source.read()?;
-    if list.count() >= places {
-        return Err(NameListFault::Places);
-    }
-    Ok(list)
+    ghost distinct: { IsDistinct is_same_eui gateways.items } by { Prim.hlevel props },
 }
 
 impl NameList {
-    ghost use Rattle.std.specs.Prelude.{◌||◌};
+    ghost use Rattle.std.specs.Prelude.{MatchResult};
     ghost use Rattle.gateway_wire.specs.declared.recipient.Recipient.TheVariants as names;
-    ghost use Rattle.lnsd_operator.specs.declared.fault.NameListFault.TheVariants as faults;
-    ghost use Rattle.lnsd_links.specs.Names.{count, has_name, HasAlso, IsListOf, IsNoListOf};
-    ghost use Rattle.lnsd_links.specs.Names.{IsOneMore};
+    ghost use Rattle.lnsd_links.specs.Names.{count, has_name, lines_of, HasAlso, IsListOf};
+    ghost use Rattle.lnsd_links.specs.Names.{IsNoListOf, IsNotAdded, IsNotOneMore, IsOneMore};
 
     /// Reads a list. Each line is `gateway` and an EUI of 16 upper-case hexadecimal digits,
     /// `application` and a number from 0 to 15, empty, or a remark, which begins with `#`. A name
@@ -54,14 +34,23 @@ impl NameList {
         ensures { MatchResult result (IsListOf (lines_of text.now))
             (IsNoListOf (lines_of text.now)) }
     {
+        laws::a_line_is_its_words();
+        laws::each_text_is_a_word();
+        laws::each_text_is_of_one_value();
+        // a list names fewer gateways than its text has bytes
+        let Ok(gateways) = Vec::with_capacity(alloc, len_of(text).min(MOST_GATEWAYS)) else {
+            return Err(NameListFault::OutOfMemory);
+        };
         let mut list = NameList {
-            gateways: Vec::new(alloc),
+            gateways,
             applications: [false; APPLICATIONS],
         };
-        let mut number = 0;
-        for line in (Lines { rest: Some(text) }) {
-            number += 1;
-            list.add_line(line, number)?;
+        let mut number: u64 = 0;
+        for line in Lines::of(text) {
+            number = number.saturating_add(1);
+            if let Err(fault) = list.add_line(line, number) {
+                return Err(fault);
+            }
         }
         Ok(list)
     }
@@ -135,75 +124,10 @@ impl NameList {
     }
 }
 
-// Whether a line lists nothing: it is empty, or begins with `#`.
-fn is_remark(line: &str) -> bool
-    ensures { result ≡ is_remark line.now }
+// The number of a text's bytes.
+fn len_of(text: &str) -> usize
+    ensures len { result ≡ length text.now }
+    ensures short { result < 2 ^ 63 }
 {
-    match line.as_bytes().first() {
-        Some(first) => *first == b'#',
-        None => true,
-    }
-}
-
-// The name that a line lists; `None` if it lists none.
-fn name_in(line: &str) -> Option<Recipient>
-    ensures found { IfSome result (Lists line.now) }
-    ensures only { (name : Recipient) → Lists line.now name → result ≡ Some name }
-{
-    laws::a_line_is_its_words();
-    laws::each_text_is_a_word();
-    let mut words = Words::of(line);
-    let word = words.next()?;
-    named_by(word, words)
-}
-
-// The name of a line with this first word and these words after it.
-fn named_by(word: &str, mut words: Words<'_>) -> Option<Recipient>
-    ensures found { IfSome result (λ name. IsName name
-        × (word.now ∷ words_left words.entry ≡ name_words name)) }
-    ensures only { (name : Recipient) → IsName name
-        → word.now ∷ words_left words.entry ≡ name_words name → result ≡ Some name }
-{
-    let name = match word {
-        "gateway" => Recipient::Gateway(next_value(&mut words)?),
-        "application" => Recipient::Application(next_ranged(&mut words)?),
-        _ => return None,
-    };
-    match words.next() {
-        Some(_) => None,
-        None => Some(name),
-    }
-}
-
-// The lines of a text that are left to read.
-#[derive(Clone, Copy)]
-struct Lines<'a> {
-    rest: Option<&'a str>,
-}
-
-impl<'a> Iterator for Lines<'a> {
-    ghost use Rattle.std.specs.Iterator.{YieldsFirstBy, item_count};
-    ghost use Rattle.lnsd_links.specs.Names.{lines_left};
-
-    type Item = &'a str;
-
-    ghost next_gives = { YieldsFirstBy (λ line. line.now) lines_left };
-
-    ghost remaining = { item_count lines_left };
-
-    fn next(&mut self) -> Option<&'a str> {
-        let (line, rest) = first_line(self.rest?);
-        self.rest = rest;
-        Some(line)
-    }
-}
-
-// The first line of a text and, if a newline follows it, the rest after the newline.
-fn first_line(text: &str) -> (&str, Option<&str>)
-    ensures { lines_of text.now ≡ result.0.now ∷ lines_in result.1 }
-{
-    match text.split_once('\n') {
-        Some((line, rest)) => (line, Some(rest)),
-        None => (text, None),
-    }
+    text.len()
 }

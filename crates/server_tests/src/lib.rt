@@ -8,6 +8,8 @@
 #[cfg(test)]
 mod disks;
 #[cfg(test)]
+mod durable_tests;
+#[cfg(test)]
 mod fault_words_tests;
 #[cfg(test)]
 mod faults_tests;

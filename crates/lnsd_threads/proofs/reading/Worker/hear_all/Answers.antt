@@ -1,13 +1,14 @@
-use Rattle.std.proofs.Common.{◌≡◌, ◌++◌, ◌∷◌, [], refl, subst}
+use Rattle.std.proofs.Common.{◌≡◌, ◌++◌, ◌∷◌, [], Option, refl, subst, sym}
 use Rattle.link_messages.specs.Feeding.{FeedState}
-use Rattle.lnsd_threads.specs.Hearing.{IsOneHeard}
+use Rattle.lnsd_links.specs.declared.allowance.Allowance.{Allowance}
+use Rattle.lnsd_threads.specs.Hearing.{ArePaidFor, IsOneHeard, copies_in}
 use Rattle.lnsd_threads.proofs.Heard.{one_more, split_on}
 use Rattle.lnsd_threads.proofs.reading.Worker.hear_all.Goals as goal
 
 -- the link is read no further after a message
 pub returns-then-not-hear-clause-heard : goal.returns-then-not-hear-clause-heard
 returns-then-not-hear-clause-heard g c =
-    let ((heard, (split, are)), same) = c.loop-message.invariant in
+    let ((heard, (split, are)), (same, paid)) = c.loop-message.invariant in
     let before = c.args.self.now in
     let now = c.loop-message.self in
     let after = c.hear.new.self in
@@ -26,10 +27,12 @@ returns-then-not-hear-clause-heard g c =
 -- one more message was handled
 pub loop-message-preserved : goal.loop-message-preserved
 loop-message-preserved g c =
-    let ((heard, (split, are)), same) = c.loop-message.invariant in
+    let ((heard, (split, are)), (same, paid)) = c.loop-message.invariant in
     let before = c.args.self.now in
     let now = c.loop-message.self in
     let after = c.hear.new.self in
+    let kept : after.allowance ≡ now.allowance = rw c.hear.ensures.same refl in
+    let kept_paid = subst (λ (a : Option Allowance). ArePaidFor (copies_in c.args.fed.messages.items) before.allowance a) (sym kept) paid in
     let feeder : now.feeder ≡ before.feeder = rw same refl in
     let one = subst (λ (f : FeedState). IsOneHeard f.peer c.in-Some.message now.seat now.refusals after.seat after.refusals) feeder c.hear.ensures.heard in (
       (
@@ -39,5 +42,5 @@ loop-message-preserved g c =
           one_more before.feeder.peer heard c.in-Some.message before.seat before.refusals now.seat now.refusals after.seat after.refusals are one,
         ),
       ),
-      rw c.hear.ensures.same (rw same refl),
+      (rw c.hear.ensures.same (rw same refl), kept_paid),
     )

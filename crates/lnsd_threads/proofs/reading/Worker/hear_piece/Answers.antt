@@ -15,7 +15,10 @@ returns-in-Ok-clause-heard g c read_on =
         rw feeder c.in-Ok.ensures.fed.0,
         (
           rw feeder (sym c.in-Ok.ensures.fed.1 ∙ c.hear_all.ensures.fault read_on),
-          rw feeder (all_heard c.feed.new.self.peer messages heard left before.seat before.refusals after.seat after.refusals split (none read_on) are),
+          (
+            rw feeder (all_heard c.feed.new.self.peer messages heard left before.seat before.refusals after.seat after.refusals split (none read_on) are),
+            c.hear_all.ensures.whole read_on,
+          ),
         ),
       ),
     )
