@@ -20,7 +20,7 @@ listen_cause ErrorKind.AddrInUse is_system = listen.InUse
 listen_cause ErrorKind.AddrNotAvailable is_system = listen.NoAddress
 listen_cause ErrorKind.InvalidInput is_system = listen.Malformed
 listen_cause ErrorKind.Uncategorized false = listen.NoName
-listen_cause other is_system = listen.Other
+listen_cause _ is_system = listen.Other
 
 abbrev pub listen_words : ListenCause → List ℕ
 listen_words listen.Permission = codes "permission denied"

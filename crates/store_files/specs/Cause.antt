@@ -11,9 +11,9 @@ cause_of_opening ErrorKind.WouldBlock = cause.InUse
 cause_of_opening ErrorKind.IsADirectory = cause.Folder
 cause_of_opening ErrorKind.ReadOnlyFilesystem = cause.ReadOnly
 cause_of_opening ErrorKind.StorageFull = cause.Full
-cause_of_opening other = cause.Other
+cause_of_opening _ = cause.Other
 
 -- a new file: its folder is what isn't found
 abbrev pub cause_of_new : ErrorKind → FileCause
 cause_of_new ErrorKind.NotFound = cause.NoFolder
-cause_of_new other = cause_of_opening other
+cause_of_new kind = cause_of_opening kind

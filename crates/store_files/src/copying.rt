@@ -4,10 +4,10 @@ ghost use Rattle.disk.specs.MemDisk.{state_of};
 ghost use Rattle.gateway_wire.specs.DeviceList.{last_line};
 ghost use Rattle.store.specs.State.{IsOpened, store_state};
 
+use crate::FileFault;
 use crate::image::image_of;
 use crate::new_file::{create, remove_new};
 use crate::source::{Source, StoreFile};
-use crate::FileFault;
 use disk::{FileDisk, MemDisk};
 use lw_types::Refusal;
 use std::alloc::Global;

@@ -14,6 +14,7 @@ use store_layout::Superblock;
 
 // Where the generation is in an area, and its length.
 const GENERATION_AT: usize = 2;
+
 const GENERATION: usize = 8;
 
 // Where the length of the records is in an area's header.
@@ -198,10 +199,28 @@ fn read_on<S: Source>(
     ensures same { S.still → S.content source.new ≡ S.content source.old }
     ensures same_length { length (S.content source.new) ≡ length (S.content source.old) }
 {
-    let mut piece = vec![in alloc; 0; len]?;
-    read_piece(source, image.len() as u64, &mut piece)?;
+    let piece = piece_at(alloc, source, image.len() as u64, len)?;
     image.extend_from_slice(&piece)?;
     Ok(())
+}
+
+// This number of bytes from a position of a source on.
+fn piece_at<S: Source>(
+    alloc: Global,
+    source: &mut S,
+    at: u64,
+    len: usize,
+) -> Result<Vec<u8>, Refusal>
+    requires { at + len ≤ length (S.content source.old) }
+    ensures bytes { S.still
+        → IfOk result (λ bytes. bytes.items ≡ take len (drop at (S.content source.old))) }
+    ensures len { IfOk result (λ bytes. length bytes.items ≡ len) }
+    ensures same { S.still → S.content source.new ≡ S.content source.old }
+    ensures same_length { length (S.content source.new) ≡ length (S.content source.old) }
+{
+    let mut bytes = vec![in alloc; 0; len]?;
+    read_piece(source, at, &mut bytes)?;
+    Ok(bytes)
 }
 
 // Fills the buffer with the bytes that begin at a position of a source.

@@ -5,6 +5,7 @@ use crate::{FileCause, FileFault};
 use disk::DeviceFailed;
 use std::fs::{File, OpenOptions};
 use std::io;
+use std::io::ErrorKind;
 use std::os::unix::fs::FileExt;
 use std::rt::Files;
 
@@ -49,8 +50,14 @@ impl StoreFile {
 
 fn opened<R: Files<File = File>>(rt: &R, path: &str) -> io::Result<StoreFile> {
     let file = OpenOptions::new().read(true).open(rt, path)?;
-    let len = file.metadata()?.len();
-    Ok(StoreFile { file, len })
+    let metadata = file.metadata()?;
+    if metadata.is_dir() {
+        return Err(io::Error::from(ErrorKind::IsADirectory));
+    }
+    Ok(StoreFile {
+        file,
+        len: metadata.len(),
+    })
 }
 
 impl Source for StoreFile {

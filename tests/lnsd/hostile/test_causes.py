@@ -19,7 +19,7 @@ ELSEWHERE, NOBODY = "192.0.2.1", "nobody.invalid"
 EUI = "A0B0C0D000000000"
 # the status of `lnsd run` if it can't listen
 CANNOT_LISTEN = 3
-CSV = "DevEUI,JoinEUI,AppKey,application,RX1DROffset,RxDelay\n"
+CSV = "DevEUI,JoinEUI,AppKey,Application\n"
 
 
 def failed(*lines: str, status: int = 1) -> Ended:
