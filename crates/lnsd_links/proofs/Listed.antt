@@ -139,13 +139,13 @@ one_more_line t before line old new are (inl (remark, same)) =
     record {
       right = all_right line before are.right (inl remark);
       names = λ name range. ap (λ (l : NameList). has_name l name) same ∙ (are.names name range ∙ sym (last_one (is_line_of name) before line
-      ∙ (ap (λ (b : Bool). list_any (is_line_of name) before || b) (no_name line name remark) ∙ or-false (list_any (is_line_of name) before))));
+          ∙ (ap (λ (b : Bool). list_any (is_line_of name) before || b) (no_name line name remark) ∙ or-false (list_any (is_line_of name) before))));
     }
 one_more_line t before line old new are (inr (name, (lists, also))) =
     record {
       right = all_right line before are.right (inr (name, lists));
       names = λ other range. also other ∙ (ap (λ (b : Bool). b || is_same_name name other) (are.names other range)
-      ∙ sym (last_one (is_line_of other) before line ∙ ap (λ (b : Bool). list_any (is_line_of other) before || b) (one_name t line name other lists range)));
+          ∙ sym (last_one (is_line_of other) before line ∙ ap (λ (b : Bool). list_any (is_line_of other) before || b) (one_name t line name other lists range)));
     }
 
 -- a list without lines has no name

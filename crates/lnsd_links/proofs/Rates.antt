@@ -1,6 +1,6 @@
 -- What is earned between payments.
-use Rattle.std.proofs.Common.{◌≡◌, ◌<◌, ◌≤◌, ◌+◌, ◌-◌, ◌*◌, ◌/◌, ◌%◌, ℕ, List, [], ◌∷◌, refl, ap, arith, sym, ◌∙◌, ◌⊎◌, inl, inr}
-use Rattle.std.specs.Prelude.{max, min}
+use Rattle.std.proofs.Common.{◌≡◌, ◌<◌, ◌≤◌, ◌+◌, ◌-◌, ◌*◌, ℕ, List, [], ◌∷◌, ap, arith, ◌⊎◌, inl, inr}
+use Rattle.std.specs.Prelude.{max}
 use Rattle.std.specs.Int.{div_ceil}
 use Rattle.std.proofs.lemmas.Grind.{div_ceil_times}
 use Rattle.lnsd_links.specs.declared.allowance.Allowance.{Allowance}
@@ -57,14 +57,18 @@ first_moment copies price now moment a rate few whole lacks is =
   where
     wait : ℕ
     wait = div_ceil (price - a.level) a.per_second
+
     bounds : (price - a.level ≤ wait * a.per_second) × (wait * a.per_second < (price - a.level) + a.per_second)
     bounds = div_ceil_times (price - a.level) a.per_second rate
+
     spent : (moment - a.at) * a.per_second ≡ wait * a.per_second
     spent = ap (λ (t : ℕ). t * a.per_second) (omega (arith, is))
+
     step : (e : ℕ) → e + 1 ≤ wait → e * a.per_second + a.per_second ≤ wait * a.per_second
     step e less =
         let one_more : (e + 1) * a.per_second ≡ e * a.per_second + a.per_second = grind arith in
         omega (arith, one_more, scaled (e + 1) wait a.per_second less)
+
     sooner : (earlier : ℕ) → earlier < moment → allowed a earlier < copies * 1000
     sooner earlier soon = go (le_or_gt (earlier - a.at + 1) wait)
       where

@@ -74,9 +74,7 @@ impl Allowance {
     {
         let time = now.get().saturating_sub(self.at.get());
         let more = time.saturating_mul(self.per_second.get());
-        self.level
-            .saturating_add(more)
-            .min(self.burst.get() * 1000)
+        self.level.saturating_add(more).min(self.burst.get() * 1000)
     }
 
     // The moment at which this has been earned, if it isn't there yet, or the last moment.

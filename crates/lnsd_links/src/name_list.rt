@@ -4,8 +4,8 @@ ghost use Rattle.std.proofs.Props.{props};
 ghost use Rattle.std.specs.List.{IsDistinct};
 ghost use Rattle.lnsd_links.specs.Same.{is_same_eui};
 
-use crate::names::{APPLICATIONS, MOST_GATEWAYS};
 use crate::name_lines::{Lines, is_remark, name_in};
+use crate::names::{APPLICATIONS, MOST_GATEWAYS};
 use gateway_wire::Recipient;
 use lnsd_operator::NameListFault;
 use lw_types::{Eui, laws};
