@@ -117,7 +117,7 @@ impl Directory {
     ghost use Rattle.gateway_wire.specs.declared.recipient.Recipient.TheVariants as names;
     ghost use Rattle.lw_types.specs.declared.identifiers.Eui.{Eui};
     ghost use Rattle.lnsd_links.specs.Linked.{gateway_link, link_of, ring_of};
-    ghost use Rattle.lnsd_links.specs.Linked.{has_room, is_listed, may_greet, may_take_over};
+    ghost use Rattle.lnsd_links.specs.Linked.{has_link_or_room, is_listed, may_greet, may_take_over};
     ghost use Rattle.lnsd_links.specs.Linked.{IsHeld, IsLinked, IsUnlinked};
     ghost use Rattle.lnsd_links.specs.declared.names.Ungranted.TheVariants.{Full, Unlisted};
 
@@ -247,7 +247,7 @@ impl Directory {
     }
 
     fn take_over_gateway(&mut self, gateway: Eui, link: usize) -> Result<Option<usize>, Ungranted>
-        ensures granted { IsOk result ↔ IsTrue (has_room self.old (names.Gateway gateway)) }
+        ensures granted { IsOk result ↔ IsTrue (has_link_or_room self.old (names.Gateway gateway)) }
         ensures full { IfErr result (λ why. why ≡ Full) }
         ensures named { MatchResult result
             (λ was. (was ≡ link_of self.old (names.Gateway gateway))
