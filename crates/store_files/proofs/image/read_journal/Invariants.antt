@@ -1,4 +1,4 @@
-use Rattle.std.proofs.Common.{◌≡◌, ◌≤◌, ◌+◌, length}
+use Rattle.std.proofs.Common.{◌≡◌, ◌≤◌, length}
 use Rattle.store_files.specs.Images.{AreFirstOf}
 use Rattle.store_files.proofs.image.read_journal.Given as goal
 
