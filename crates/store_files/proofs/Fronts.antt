@@ -4,17 +4,17 @@ use Rattle.std.specs.Bool.{MatchBool}
 use Rattle.std.specs.Cmp.Lexicographic.{pointwise, told_text}
 use Rattle.std.proofs.Math.Seq.{take-add}
 use Rattle.std.proofs.lemmas.List.{drop-take, take_at}
-use Rattle.store_files.specs.Images.{IsFrontOf}
+use Rattle.store_files.specs.Images.{AreFirstOf}
 
 -- the next piece
-pub read_more : (content image piece : List ℕ) (n : ℕ) → IsFrontOf content image → piece ≡ take n (drop (length image) content)
-    → length piece ≡ n → IsFrontOf content (image ++ piece)
+pub read_more : (content image piece : List ℕ) (n : ℕ) → AreFirstOf content image → piece ≡ take n (drop (length image) content)
+    → length piece ≡ n → AreFirstOf content (image ++ piece)
 read_more content image piece n front more size =
     let total : length (image ++ piece) ≡ length image + n = length-append image piece ∙ ap (λ m. length image + m) size in
     ap₂ (λ a b. a ++ b) front more ∙ (sym (take-add (length image) n content) ∙ ap (λ m. take m content) (sym total))
 
 -- a piece of it
-pub piece_of : (content image bytes : List ℕ) (at : ℕ) → at + length bytes ≤ length image → IsFrontOf content image
+pub piece_of : (content image bytes : List ℕ) (at : ℕ) → at + length bytes ≤ length image → AreFirstOf content image
     → bytes ≡ take (length bytes) (drop at content) → take (length bytes) (drop at image) ≡ bytes
 piece_of content image bytes at within front is =
     let k = length bytes in

@@ -2,5 +2,5 @@
 use Rattle.std.specs.Prelude.{◌≡◌, ℕ, List, length, take}
 
 -- these are the first bytes
-abbrev pub IsFrontOf : List ℕ → List ℕ → Type 0
-IsFrontOf content front = front ≡ take (length front) content
+abbrev pub AreFirstOf : List ℕ → List ℕ → Type 0
+AreFirstOf content front = front ≡ take (length front) content

@@ -1,7 +1,7 @@
 // What a store's disk holds, while somebody else may write it.
 ghost use Rattle.std.specs.Prelude.{◌≡◌, ◌≤◌, ◌+◌, ℕ, List, length, take, drop, true, IfOk, IfSome};
-ghost use Rattle.std.specs.Prelude.{OnOk, OnSome};
-ghost use Rattle.store_files.specs.Images.{IsFrontOf};
+ghost use Rattle.std.specs.Prelude.{IsSome, OnOk};
+ghost use Rattle.store_files.specs.Images.{AreFirstOf};
 ghost use Rattle.store_layout.specs.Superblock.{disk_len};
 
 use crate::Source;
@@ -32,7 +32,7 @@ const RECORDS_LEN_AT: usize = 21;
 pub fn image_of<S: Source>(alloc: Global, source: &mut S) -> Result<Option<Vec<u8>>, Refusal>
     ensures image { S.still
         → IfOk result (λ read. IfSome read (λ image. image.items ≡ S.content source.old)) }
-    ensures there { S.still → IfOk result (λ read. OnSome read (Unit {0})) }
+    ensures there { S.still → IfOk result (λ read. IsSome read) }
     ensures same { S.still → S.content source.new ≡ S.content source.old }
     ensures same_length { length (S.content source.new) ≡ length (S.content source.old) }
 {
@@ -79,9 +79,9 @@ fn read_area<S: Source>(
     requires room { length image.old.items + 1 + Header.LEN ≤ end }
     requires within { end ≤ length (S.content source.old) }
     ensures len { OnOk result (length image.new.items ≡ end) }
-    ensures front { S.still → IsFrontOf (S.content source.old) image.old.items
-        → OnOk result (IsFrontOf (S.content source.old) image.new.items) }
-    ensures there { S.still → IsFrontOf (S.content source.old) image.old.items
+    ensures front { S.still → AreFirstOf (S.content source.old) image.old.items
+        → OnOk result (AreFirstOf (S.content source.old) image.new.items) }
+    ensures there { S.still → AreFirstOf (S.content source.old) image.old.items
         → IfOk result (λ is_same. is_same ≡ true) }
     ensures same { S.still → S.content source.new ≡ S.content source.old }
     ensures same_length { length (S.content source.new) ≡ length (S.content source.old) }
@@ -110,8 +110,8 @@ fn read_journal<S: Source>(
     ensures len { OnOk result (length image.old.items ≤ length image.new.items) }
     ensures end { OnOk result (length image.new.items ≤ end) }
     ensures header { OnOk result (length image.old.items + Header.LEN ≤ length image.new.items) }
-    ensures front { S.still → IsFrontOf (S.content source.old) image.old.items
-        → OnOk result (IsFrontOf (S.content source.old) image.new.items) }
+    ensures front { S.still → AreFirstOf (S.content source.old) image.old.items
+        → OnOk result (AreFirstOf (S.content source.old) image.new.items) }
     ensures same { S.still → S.content source.new ≡ S.content source.old }
     ensures same_length { length (S.content source.new) ≡ length (S.content source.old) }
 {
@@ -141,8 +141,8 @@ fn read_next<S: Source>(
     requires within { end ≤ length (S.content source.old) }
     ensures len { OnOk result (length image.old.items ≤ length image.new.items) }
     ensures end { OnOk result (length image.new.items ≤ end) }
-    ensures front { S.still → IsFrontOf (S.content source.old) image.old.items
-        → OnOk result (IsFrontOf (S.content source.old) image.new.items) }
+    ensures front { S.still → AreFirstOf (S.content source.old) image.old.items
+        → OnOk result (AreFirstOf (S.content source.old) image.new.items) }
     ensures same { S.still → S.content source.new ≡ S.content source.old }
     ensures same_length { length (S.content source.new) ≡ length (S.content source.old) }
 {
@@ -163,7 +163,7 @@ fn read_next<S: Source>(
 fn is_same<S: Source>(source: &mut S, image: &[u8], start: usize) -> Result<bool, Refusal>
     requires within { start + GENERATION_AT + GENERATION ≤ length image.now }
     requires end { length image.now ≤ length (S.content source.old) }
-    ensures there { S.still → IsFrontOf (S.content source.old) image.now
+    ensures there { S.still → AreFirstOf (S.content source.old) image.now
         → IfOk result (λ is_same. is_same ≡ true) }
     ensures same { S.still → S.content source.new ≡ S.content source.old }
     ensures same_length { length (S.content source.new) ≡ length (S.content source.old) }
@@ -179,7 +179,7 @@ fn is_same<S: Source>(source: &mut S, image: &[u8], start: usize) -> Result<bool
 // Whether an image has these bytes at this place.
 fn has(image: &[u8], at: usize, bytes: &[u8]) -> bool
     requires { at + length bytes.now ≤ length image.now }
-    ensures there { (content : List ℕ) → IsFrontOf content image.now
+    ensures there { (content : List ℕ) → AreFirstOf content image.now
         → bytes.now ≡ take (length bytes.now) (drop at content) → result ≡ true }
 {
     image[at..at + bytes.len()] == bytes[..]
@@ -194,8 +194,8 @@ fn read_on<S: Source>(
 ) -> Result<(), Refusal>
     requires within { length image.old.items + len ≤ length (S.content source.old) }
     ensures len { OnOk result (length image.new.items ≡ length image.old.items + len) }
-    ensures front { S.still → IsFrontOf (S.content source.old) image.old.items
-        → OnOk result (IsFrontOf (S.content source.old) image.new.items) }
+    ensures front { S.still → AreFirstOf (S.content source.old) image.old.items
+        → OnOk result (AreFirstOf (S.content source.old) image.new.items) }
     ensures same { S.still → S.content source.new ≡ S.content source.old }
     ensures same_length { length (S.content source.new) ≡ length (S.content source.old) }
 {

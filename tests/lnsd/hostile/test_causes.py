@@ -105,7 +105,7 @@ def test_file_of_another_user_by_root(store: Program, program: str, folder: Path
 
 def can_be_run_by_nobody(program: str) -> bool:
     """Whether other users reach the program."""
-    return all(os.stat(path).st_mode & 0o001 for path in (program, *Path(program).parents))
+    return all(os.stat(path).st_mode & 0o001 for path in (Path(program), *Path(program).parents))
 
 
 @pytest.mark.parametrize("word", ["restore", "grow", "copy"])
@@ -144,11 +144,11 @@ ADDRESSES: tuple[tuple[str, Callable[[int], str], str], ...] = (
 def test_address(store: Program, listen: Callable[[int], str], cause: str) -> None:
     """An address that can't be listened on."""
     port = free_port()
+    where = "--listen", listen(port)
     with bound(port):
-        words = ("run", store.store, "--listen", listen(port))
-        assert store.run(*words) == failed("listen", cause, status=CANNOT_LISTEN)
-        words = ("serve", store.store, "--listen", listen(port), "--links", "1")
-        assert store.run(*words) == failed("listen")
+        came = store.run("run", store.store, *where)
+        assert came == failed("listen", cause, status=CANNOT_LISTEN)
+        assert store.run("serve", store.store, *where, "--links", "1") == failed("listen")
 
 
 @pytest.mark.parametrize("word", FIXED)

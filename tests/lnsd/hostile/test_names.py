@@ -5,7 +5,7 @@ from contextlib import ExitStack
 from pathlib import Path
 
 import pytest
-from bozintar import load, wire
+from bozintar import load
 from bozintar.links import Application, Ended, Gateway, Link, Silent
 from bozintar.processes import HOST, free_port
 from bozintar.server import Program

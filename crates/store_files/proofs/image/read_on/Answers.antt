@@ -1,5 +1,5 @@
 use Rattle.std.proofs.Common.{◌≡◌, ◌++◌, length, take, drop, rules, subst, sym}
-use Rattle.store_files.specs.Images.{IsFrontOf}
+use Rattle.store_files.specs.Images.{AreFirstOf}
 use Rattle.store_files.proofs.Fronts.{read_more}
 use Rattle.store_files.proofs.image.read_on.Goals as goal
 
@@ -11,4 +11,4 @@ returns-clause-front g c still front =
     let came = c.in_ok-piece.ensures.bytes still in
     let more : piece ≡ take c.args.len (drop (length image) content) = cc (came, c.len.ensures) in
     let items : c.extend_from_slice.new.self.items ≡ image ++ piece = search rules in
-    subst (IsFrontOf content) (sym items) (read_more content image piece c.args.len front more c.in_ok-piece.ensures.len)
+    subst (AreFirstOf content) (sym items) (read_more content image piece c.args.len front more c.in_ok-piece.ensures.len)
