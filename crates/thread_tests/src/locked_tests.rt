@@ -327,18 +327,20 @@ impl<B: Books> Lives<'_, B> {
 fn plays<B: Books, R: Wait>(
     rt: &R,
     alloc: Global,
+    cores: (Core, Core),
     made: Blank,
     taken: Blank,
     history: BlankHistory,
     script: u8,
     each: bool,
 ) -> Result<String, Refusal>
+    requires new { (cores.1.decisions.made ≡ 0) × (cores.1.decisions.taken ≡ 0) }
     requires made { (made.name ≡ B.made_name) × (made.parts ≡ B.made_parts) × (made.parts ≡ 1) }
     requires taken { (taken.name ≡ B.taken_name) × (taken.parts ≡ 1) }
     requires history { history.seen.book ≡ B.history }
 {
-    let mut core = new_core(alloc, 8)?;
-    let (mut shared, mut taker) = Shared::<B>::new(new_core(alloc, 8)?, 1, made, taken, history);
+    let (mut core, locked) = cores;
+    let (mut shared, mut taker) = Shared::<B>::new(locked, 1, made, taken, history);
     let mut seat = shared.seat();
     shared.observe();
     let sessions = Mutex::new(shared);
@@ -360,8 +362,10 @@ fn plays<B: Books, R: Wait>(
 
 // A life with one seat: what is wrong in it.
 fn plays_alone<R: Wait>(rt: &R, alloc: Global, script: u8, each: bool) -> Result<String, Refusal> {
+    let cores = (new_core(alloc, 8)?, new_core(alloc, 8)?);
+    let (made, taken) = (Blank::new(1), Blank::new(1));
     let history = BlankHistory::new();
-    plays::<Brand, R>(rt, alloc, Blank::new(1), Blank::new(1), history, script, each)
+    plays::<Brand, R>(rt, alloc, cores, made, taken, history, script, each)
 }
 
 #[test]
