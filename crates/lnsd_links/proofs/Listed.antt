@@ -19,8 +19,8 @@ use Rattle.gateway_wire.specs.declared.recipient.Recipient.{Recipient}
 use Rattle.gateway_wire.specs.declared.recipient.Recipient.TheVariants as names
 use Rattle.lnsd_operator.specs.declared.fault.NameListFault.{NameListFault}
 use Rattle.lnsd_operator.specs.declared.fault.NameListFault.TheVariants as faults
-use Rattle.lnsd_links.specs.NameLines.{lines_of, is_line_of, is_remark, name_words, IsName, IsRight, Lists}
-use Rattle.lnsd_links.specs.Names.{has_name, IsListOf, IsNoListOf, IsNotOneMore, IsOneMore}
+use Rattle.lnsd_links.specs.NameLines.{lines_of, is_line_of, is_remark, listing_words, IsName, IsListLine, Lists}
+use Rattle.lnsd_links.specs.Names.{has_name, IsNameListOf, IsNoNameListOf, IsNotOneMore, IsOneMore}
 use Rattle.lnsd_links.specs.Same.{is_same_eui, is_same_name}
 use Rattle.lnsd_links.specs.declared.name_list.NameList.{NameList}
 
@@ -60,7 +60,7 @@ distinct_pushed true q xs new is distinct none = subst (λ (l : List Eui). IsDis
 distinct_pushed false q xs new is distinct none = subst (λ (l : List Eui). IsDistinct is_same_eui l) (sym is) distinct
 
 -- one line more is right
-pub all_right : (line : List ℕ) (before : List (List ℕ)) → AllByRecursion IsRight before → IsRight line → AllByRecursion IsRight (before ++ line ∷ [])
+pub all_right : (line : List ℕ) (before : List (List ℕ)) → AllByRecursion IsListLine before → IsListLine line → AllByRecursion IsListLine (before ++ line ∷ [])
 all_right line [] right one = (one, tt)
 all_right line (first ∷ before) right one = (right.0, all_right line before right.1 one)
 
@@ -82,9 +82,9 @@ application_is_word : IsWord (codes "application")
 application_is_word k d lt = agree_below_at (λ i. is_space (get_or (codes "application") i d)) (λ _. false) 11 k refl lt
 
 abbrev text_of : Recipient → List ℕ
-text_of name = line_of (name_words name)
+text_of name = line_of (listing_words name)
 
-are_words : Texts → (name : Recipient) → IsName name → AreWords (name_words name)
+are_words : Texts → (name : Recipient) → IsName name → AreWords (listing_words name)
 are_words t (names.Gateway gateway) range = (omega arith, (gateway_is_word, (t.eui_words gateway, tt)))
 are_words t (names.Application application) range = (omega arith, (application_is_word, (t.decimal_words application (omega (arith, range)), tt)))
 
@@ -96,9 +96,9 @@ first_word words = slice_index_or words 0 []
 
 -- names that have one text are the same
 same_name : Texts → (a b : Recipient) → IsName a → IsName b → text_of a ≡ text_of b → is_same_name a b ≡ true
-same_name t a b in_a in_b same = go a b in_a in_b (sym (t.words (name_words a) (are_words t a in_a)) ∙ (ap words_of same ∙ t.words (name_words b) (are_words t b in_b)))
+same_name t a b in_a in_b same = go a b in_a in_b (sym (t.words (listing_words a) (are_words t a in_a)) ∙ (ap words_of same ∙ t.words (listing_words b) (are_words t b in_b)))
   where
-    go : (a b : Recipient) → IsName a → IsName b → name_words a ≡ name_words b → is_same_name a b ≡ true
+    go : (a b : Recipient) → IsName a → IsName b → listing_words a ≡ listing_words b → is_same_name a b ≡ true
     go (names.Gateway g) (names.Gateway h) ga hb e = eq-eqb h.0 g.0 (ap (λ (x : Eui). x.0) (sym (t.euis g h ga hb (ap second_word e))))
     go (names.Application g) (names.Application h) ga hb e = eq-eqb g h (t.decimals g h (omega (arith, ga)) (omega (arith, hb)) (ap second_word e))
     go (names.Gateway g) (names.Application h) ga hb e = absurd (differ (ap first_word e))
@@ -134,22 +134,22 @@ no_name (c ∷ rest) (names.Application a) remark = rw (eqb-true c 35 remark) re
 last_one : (p : List ℕ → Bool) (before : List (List ℕ)) (line : List ℕ) → list_any p (before ++ line ∷ []) ≡ (list_any p before || p line)
 last_one p before line = list_any-append p before (line ∷ []) ∙ ap (λ (b : Bool). list_any p before || b) (or-false (p line))
 
-pub one_more_line : Texts → (before : List (List ℕ)) (line : List ℕ) (old new : NameList) → IsListOf before old → IsOneMore line old new → IsListOf (before ++ line ∷ []) new
+pub one_more_line : Texts → (before : List (List ℕ)) (line : List ℕ) (old new : NameList) → IsNameListOf before old → IsOneMore line old new → IsNameListOf (before ++ line ∷ []) new
 one_more_line t before line old new are (inl (remark, same)) =
     record {
       right = all_right line before are.right (inl remark);
       names = λ name range. ap (λ (l : NameList). has_name l name) same ∙ (are.names name range ∙ sym (last_one (is_line_of name) before line
-      ∙ (ap (λ (b : Bool). list_any (is_line_of name) before || b) (no_name line name remark) ∙ or-false (list_any (is_line_of name) before))));
+          ∙ (ap (λ (b : Bool). list_any (is_line_of name) before || b) (no_name line name remark) ∙ or-false (list_any (is_line_of name) before))));
     }
 one_more_line t before line old new are (inr (name, (lists, also))) =
     record {
       right = all_right line before are.right (inr (name, lists));
       names = λ other range. also other ∙ (ap (λ (b : Bool). b || is_same_name name other) (are.names other range)
-      ∙ sym (last_one (is_line_of other) before line ∙ ap (λ (b : Bool). list_any (is_line_of other) before || b) (one_name t line name other lists range)));
+          ∙ sym (last_one (is_line_of other) before line ∙ ap (λ (b : Bool). list_any (is_line_of other) before || b) (one_name t line name other lists range)));
     }
 
 -- a list without lines has no name
-pub no_lines : (list : NameList) → list.gateways.items ≡ [] → ((n : ℕ) → n < 16 → slice_index_or list.applications n false ≡ false) → IsListOf [] list
+pub no_lines : (list : NameList) → list.gateways.items ≡ [] → ((n : ℕ) → n < 16 → slice_index_or list.applications n false ≡ false) → IsNameListOf [] list
 no_lines list none no_applications = record { right = tt; names = none_named }
   where
     none_named : (name : Recipient) → IsName name → has_name list name ≡ false
@@ -158,8 +158,8 @@ no_lines list none no_applications = record { right = tt; names = none_named }
 
 -- a line that isn't taken, after some lines that were
 pub not_taken : (lines before after : List (List ℕ)) (line : List ℕ) (number : ℕ) (list : NameList) (fault : NameListFault)
-    → lines ≡ before ++ line ∷ after → number ≡ length before + 1 → IsListOf before list
-    → IsNotOneMore line number list fault → IsNoListOf lines fault
+    → lines ≡ before ++ line ∷ after → number ≡ length before + 1 → IsNameListOf before list
+    → IsNotOneMore line number list fault → IsNoNameListOf lines fault
 not_taken lines before after line number list (faults.Line wrong) split count are (is, not_right) =
     (before, (line, ((after, split), (are.right, (is ∙ count, not_right)))))
 not_taken lines before after line number list faults.Gateways split count are (names.Gateway gateway, (lists, (full, other))) =

@@ -1,10 +1,10 @@
 -- What is earned between payments.
-use Rattle.std.proofs.Common.{◌≡◌, ◌<◌, ◌≤◌, ◌+◌, ◌-◌, ◌*◌, ◌/◌, ◌%◌, ℕ, List, [], ◌∷◌, refl, ap, arith, sym, ◌∙◌, ◌⊎◌, inl, inr}
-use Rattle.std.specs.Prelude.{max, min}
+use Rattle.std.proofs.Common.{◌≡◌, ◌<◌, ◌≤◌, ◌+◌, ◌-◌, ◌*◌, ℕ, List, [], ◌∷◌, ap, arith, ◌⊎◌, inl, inr}
+use Rattle.std.specs.Prelude.{max}
 use Rattle.std.specs.Int.{div_ceil}
 use Rattle.std.proofs.lemmas.Grind.{div_ceil_times}
 use Rattle.lnsd_links.specs.declared.allowance.Allowance.{Allowance}
-use Rattle.lnsd_links.specs.Allowed.{allowed, copies_of, ArePaid, IsFirstMoment, IsPaid}
+use Rattle.lnsd_links.specs.Allowed.{allowance_at, copies_of, ArePaid, IsFirstMoment, IsPaid}
 
 -- time goes on, and each millisecond earns the same
 earns : (a b c r : ℕ) → a ≤ b → b ≤ c → (b - a) * r + (c - b) * r ≡ (c - a) * r
@@ -17,7 +17,7 @@ pub paid_once : (copies now : ℕ) (old new : Allowance) → IsPaid copies now o
     → (copies * 1000 + new.level ≤ old.level + (new.at - old.at) * old.per_second)
     × ((old.at ≤ new.at) × (new.per_second ≡ old.per_second))
 paid_once copies now old new paid =
-    let level : new.level ≡ allowed old now - copies * 1000 = ap (λ (a : Allowance). a.level) paid.1 in
+    let level : new.level ≡ allowance_at old now - copies * 1000 = ap (λ (a : Allowance). a.level) paid.1 in
     let at : new.at ≡ max old.at now = ap (λ (a : Allowance). a.at) paid.1 in
     let rate : new.per_second ≡ old.per_second = ap (λ (a : Allowance). a.per_second) paid.1 in
     let later : now - old.at ≡ new.at - old.at = omega (arith, at) in
@@ -46,7 +46,7 @@ le_or_gt m n = grind arith
 
 -- the first moment at which a price has been earned
 pub first_moment : (copies price now moment : ℕ) (a : Allowance) → 0 < a.per_second
-    → price ≤ copies * 1000 → (copies ≤ a.burst → price ≡ copies * 1000) → allowed a now < price
+    → price ≤ copies * 1000 → (copies ≤ a.burst → price ≡ copies * 1000) → allowance_at a now < price
     → moment ≡ a.at + div_ceil (price - a.level) a.per_second
     → IsFirstMoment copies a moment
 first_moment copies price now moment a rate few whole lacks is =
@@ -57,18 +57,22 @@ first_moment copies price now moment a rate few whole lacks is =
   where
     wait : ℕ
     wait = div_ceil (price - a.level) a.per_second
+
     bounds : (price - a.level ≤ wait * a.per_second) × (wait * a.per_second < (price - a.level) + a.per_second)
     bounds = div_ceil_times (price - a.level) a.per_second rate
+
     spent : (moment - a.at) * a.per_second ≡ wait * a.per_second
     spent = ap (λ (t : ℕ). t * a.per_second) (omega (arith, is))
+
     step : (e : ℕ) → e + 1 ≤ wait → e * a.per_second + a.per_second ≤ wait * a.per_second
     step e less =
         let one_more : (e + 1) * a.per_second ≡ e * a.per_second + a.per_second = grind arith in
         omega (arith, one_more, scaled (e + 1) wait a.per_second less)
-    sooner : (earlier : ℕ) → earlier < moment → allowed a earlier < copies * 1000
+
+    sooner : (earlier : ℕ) → earlier < moment → allowance_at a earlier < copies * 1000
     sooner earlier soon = go (le_or_gt (earlier - a.at + 1) wait)
       where
-        go : (earlier - a.at + 1 ≤ wait) ⊎ (wait < earlier - a.at + 1) → allowed a earlier < copies * 1000
+        go : (earlier - a.at + 1 ≤ wait) ⊎ (wait < earlier - a.at + 1) → allowance_at a earlier < copies * 1000
         go (inl less) = omega (arith, step (earlier - a.at) less, bounds.1, lacks, few, bounds.0)
         go (inr more) =
             let none : wait ≡ 0 = omega (arith, more, soon, is) in

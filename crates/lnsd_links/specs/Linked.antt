@@ -52,10 +52,13 @@ abbrev pub may_greet : Directory → Recipient → Bool
 may_greet directory name =
     is_listed directory name && (is_none (link_of directory name) && has_free_link directory name)
 
+-- it already has a link, or there is room for it
+abbrev pub has_link_or_room : Directory → Recipient → Bool
+has_link_or_room directory name = is_some (link_of directory name) || has_free_link directory name
+
 -- its name is listed, and it already has a link, or there is room for it
 abbrev pub may_take_over : Directory → Recipient → Bool
-may_take_over directory name =
-    is_listed directory name && (is_some (link_of directory name) || has_free_link directory name)
+may_take_over directory name = is_listed directory name && has_link_or_room directory name
 
 -- a name has this link now, and each other name has the link that it had; the applications' rings
 -- and the list of names stay as they were

@@ -20,9 +20,9 @@ lines_in None = []
 lines_in (Some rest) = lines_of rest.now
 
 -- the words of the line that lists a name
-abbrev pub name_words : Recipient → List (List ℕ)
-name_words (Gateway gateway) = codes "gateway" ∷ eui_text gateway ∷ []
-name_words (Application application) = codes "application" ∷ decimal application ∷ []
+abbrev pub listing_words : Recipient → List (List ℕ)
+listing_words (Gateway gateway) = codes "gateway" ∷ eui_text gateway ∷ []
+listing_words (Application application) = codes "application" ∷ decimal application ∷ []
 
 -- the name is in range
 abbrev pub IsName : Recipient → Type 0
@@ -31,7 +31,7 @@ IsName (Application application) = application < 16
 
 -- a line lists this name
 abbrev pub Lists : List ℕ → Recipient → Type 0
-Lists line name = IsName name × (line ≡ line_of (name_words name))
+Lists line name = IsName name × (line ≡ line_of (listing_words name))
 
 -- a line lists nothing: it is empty, or begins with `#`
 abbrev pub is_remark : List ℕ → Bool
@@ -39,9 +39,9 @@ is_remark [] = true
 is_remark (c ∷ rest) = c == 35
 
 -- a line that a list may have
-abbrev pub IsRight : List ℕ → Type 0
-IsRight line = (is_remark line ≡ true) ⊎ ((name : Recipient) × Lists line name)
+abbrev pub IsListLine : List ℕ → Type 0
+IsListLine line = (is_remark line ≡ true) ⊎ ((name : Recipient) × Lists line name)
 
 -- the line lists this name, whose range isn't looked at
 abbrev pub is_line_of : Recipient → List ℕ → Bool
-is_line_of name line = bytes_eq line (line_of (name_words name))
+is_line_of name line = bytes_eq line (line_of (listing_words name))

@@ -8,7 +8,7 @@ use Rattle.gateway_wire.specs.declared.recipient.Recipient.TheVariants.{Gateway,
 use Rattle.lnsd_operator.specs.declared.fault.NameListFault.{NameListFault}
 use Rattle.lnsd_operator.specs.declared.fault.NameListFault.TheVariants as faults
 pub use Rattle.lnsd_links.specs.NameLines.{lines_of}
-use Rattle.lnsd_links.specs.NameLines.{is_line_of, is_remark, IsName, IsRight, Lists}
+use Rattle.lnsd_links.specs.NameLines.{is_line_of, is_remark, IsName, IsListLine, Lists}
 use Rattle.lnsd_links.specs.Same.{is_same_eui, is_same_name}
 use Rattle.lnsd_links.specs.declared.name_list.NameList.{NameList}
 
@@ -23,8 +23,8 @@ HasAlso old name new = (other : Recipient)
     → has_name new other ≡ (has_name old other || is_same_name name other)
 
 -- the number of names
-abbrev pub count : NameList → ℕ
-count list = length list.gateways.items + count_by (λ b. b) list.applications
+abbrev pub number_of_names : NameList → ℕ
+number_of_names list = length list.gateways.items + count_by (λ b. b) list.applications
 
 -- why a name isn't added: it is a gateway after 64 others, or memory ran out
 abbrev pub IsNotAdded : Recipient → NameList → NameListFault → Type 0
@@ -41,13 +41,13 @@ IsOneMore line old new =
 
 -- why what a line of this number lists isn't added: it isn't right, or the name isn't added
 abbrev pub IsNotOneMore : List ℕ → ℕ → NameList → NameListFault → Type 0
-IsNotOneMore line number list (faults.Line wrong) = (wrong ≡ number) × ¬ (IsRight line)
+IsNotOneMore line number list (faults.Line wrong) = (wrong ≡ number) × ¬ (IsListLine line)
 IsNotOneMore line number list fault =
     (name : Recipient) × (Lists line name × IsNotAdded name list fault)
 
 -- a list of these lines: each is right, and the list has the names that they list
-pub record IsListOf (lines : List (List ℕ)) (list : NameList) : Type 0 where
-  pub right : AllByRecursion IsRight lines
+pub record IsNameListOf (lines : List (List ℕ)) (list : NameList) : Type 0 where
+  pub right : AllByRecursion IsListLine lines
   pub names : (name : Recipient) → IsName name
       → has_name list name ≡ list_any (is_line_of name) lines
 
@@ -57,15 +57,15 @@ AreBefore before line lines = (after : List (List ℕ)) × (lines ≡ before ++ 
 
 -- Why lines aren't taken as a list. The number is that of the first line that isn't right. Or a line
 -- lists a gateway after 64 others. Or memory ran out.
-abbrev pub IsNoListOf : List (List ℕ) → NameListFault → Type 0
-IsNoListOf lines (faults.Line number) =
+abbrev pub IsNoNameListOf : List (List ℕ) → NameListFault → Type 0
+IsNoNameListOf lines (faults.Line number) =
     (before : List (List ℕ)) × ((line : List ℕ) × (AreBefore before line lines
-    × (AllByRecursion IsRight before × ((number ≡ length before + 1) × ¬ (IsRight line)))))
-IsNoListOf lines faults.Gateways =
+    × (AllByRecursion IsListLine before × ((number ≡ length before + 1) × ¬ (IsListLine line)))))
+IsNoNameListOf lines faults.Gateways =
     (before : List (List ℕ)) × ((line : List ℕ) × (AreBefore before line lines
     × ((gateway : Eui) × ((others : NameList) × (Lists line (Gateway gateway)
-    × (IsListOf before others × ((length others.gateways.items ≡ 64)
+    × (IsNameListOf before others × ((length others.gateways.items ≡ 64)
     × (has_name others (Gateway gateway) ≡ false))))))))
-IsNoListOf lines faults.OutOfMemory = ⊤
-IsNoListOf lines faults.File = ⊥
-IsNoListOf lines faults.Places = ⊥
+IsNoNameListOf lines faults.OutOfMemory = ⊤
+IsNoNameListOf lines faults.File = ⊥
+IsNoNameListOf lines faults.Places = ⊥

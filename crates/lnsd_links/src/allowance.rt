@@ -29,7 +29,7 @@ impl Allowance {
     ghost use Rattle.std.specs.Prelude.{min};
     ghost use Rattle.std.specs.Int.{div_ceil};
     ghost use Rattle.lnsd_links.specs.declared.allowance.CopyRate.TheVariants.{PerSecond, Unlimited};
-    ghost use Rattle.lnsd_links.specs.Allowed.{allowed, IsFirstMoment, IsPaid};
+    ghost use Rattle.lnsd_links.specs.Allowed.{allowance_at, IsFirstMoment, IsPaid};
 
     /// The allowance of a link that begins now: no copy may come yet. `None` if the link isn't
     /// limited.
@@ -53,7 +53,7 @@ impl Allowance {
     /// first moment at which they may come. More copies at once than the burst may never come.
     pub fn pay(&mut self, copies: u64, now: Moment) -> Result<(), Moment>
         ensures paid { MatchResult result (λ _. IsPaid copies now self.old self.new)
-            (λ moment. (self.new ≡ self.old) × (allowed self.old now < copies * 1000)) }
+            (λ moment. (self.new ≡ self.old) × (allowance_at self.old now < copies * 1000)) }
         ensures first { IfErr result (λ moment. moment + 1 < 2 ^ 63
             → IsFirstMoment copies self.old moment) }
     {
@@ -69,14 +69,12 @@ impl Allowance {
 
     // What may come at this moment, in thousandths of a copy.
     fn level_at(&self, now: Moment) -> u64
-        ensures allowed { result ≡ allowed self.now now }
+        ensures value { result ≡ allowance_at self.now now }
         ensures few { result ≤ 1000000000 }
     {
         let time = now.get().saturating_sub(self.at.get());
         let more = time.saturating_mul(self.per_second.get());
-        self.level
-            .saturating_add(more)
-            .min(self.burst.get() * 1000)
+        self.level.saturating_add(more).min(self.burst.get() * 1000)
     }
 
     // The moment at which this has been earned, if it isn't there yet, or the last moment.

@@ -6,7 +6,7 @@ ghost use Rattle.gateway_wire.specs.declared.recipient.Recipient.TheVariants as 
 ghost use Rattle.lw_types.specs.Hex.{eui_text};
 ghost use Rattle.lw_types.specs.declared.identifiers.Eui.{Eui};
 ghost use Rattle.lw_types.specs.WordsLeft.{words_left};
-ghost use Rattle.lnsd_links.specs.NameLines.{is_remark, lines_in, lines_of, name_words, IsName};
+ghost use Rattle.lnsd_links.specs.NameLines.{is_remark, lines_in, lines_of, listing_words, IsName};
 ghost use Rattle.lnsd_links.specs.NameLines.{Lists};
 
 use gateway_wire::{Recipient, next_ranged, next_value};
@@ -37,9 +37,9 @@ pub(crate) fn name_in(line: &str) -> Option<Recipient>
 // The name of a line with this first word and these words after it.
 fn named_by(word: &str, mut words: Words<'_>) -> Option<Recipient>
     ensures found { IfSome result (λ name. IsName name
-        × (word.now ∷ words_left words.entry ≡ name_words name)) }
+        × (word.now ∷ words_left words.entry ≡ listing_words name)) }
     ensures only { (name : Recipient) → IsName name
-        → word.now ∷ words_left words.entry ≡ name_words name → result ≡ Some name }
+        → word.now ∷ words_left words.entry ≡ listing_words name → result ≡ Some name }
 {
     match word {
         "gateway" => gateway_in(words),
@@ -51,7 +51,7 @@ fn named_by(word: &str, mut words: Words<'_>) -> Option<Recipient>
 // The gateway whose EUI is the one word that is left.
 fn gateway_in(mut words: Words<'_>) -> Option<Recipient>
     ensures found { IfSome result (λ name. IsName name
-        × (codes "gateway" ∷ words_left words.entry ≡ name_words name)) }
+        × (codes "gateway" ∷ words_left words.entry ≡ listing_words name)) }
     ensures only { (gateway : Eui) → gateway.0 < 2 ^ 64
         → words_left words.entry ≡ eui_text gateway ∷ []
         → result ≡ Some (names.Gateway gateway) }
@@ -66,7 +66,7 @@ fn gateway_in(mut words: Words<'_>) -> Option<Recipient>
 // The application whose number is the one word that is left.
 fn application_in(mut words: Words<'_>) -> Option<Recipient>
     ensures found { IfSome result (λ name. IsName name
-        × (codes "application" ∷ words_left words.entry ≡ name_words name)) }
+        × (codes "application" ∷ words_left words.entry ≡ listing_words name)) }
     ensures only { (application : ℕ) → application < 16
         → words_left words.entry ≡ decimal application ∷ []
         → result ≡ Some (names.Application application) }
@@ -80,22 +80,22 @@ fn application_in(mut words: Words<'_>) -> Option<Recipient>
 
 /// The lines of a text that are left to read.
 #[derive(Clone, Copy)]
-pub(crate) struct Lines<'a> {
+pub(crate) struct ListLines<'a> {
     rest: Option<&'a str>,
 }
 
-impl<'a> Lines<'a> {
+impl<'a> ListLines<'a> {
     ghost use Rattle.lnsd_links.specs.LinesLeft.{lines_left};
 
     /// All the lines of a text.
     pub(crate) fn of(text: &'a str) -> Self
         ensures { lines_left result ≡ lines_of text.now }
     {
-        Lines { rest: Some(text) }
+        ListLines { rest: Some(text) }
     }
 }
 
-impl<'a> Iterator for Lines<'a> {
+impl<'a> Iterator for ListLines<'a> {
     ghost use Rattle.std.specs.Iterator.{YieldsFirstBy, item_count};
     ghost use Rattle.lnsd_links.specs.LinesLeft.{lines_left};
 
@@ -106,14 +106,14 @@ impl<'a> Iterator for Lines<'a> {
     ghost remaining = { item_count lines_left };
 
     fn next(&mut self) -> Option<&'a str> {
-        let (line, rest) = first_line(self.rest?);
+        let (line, rest) = line_and_rest(self.rest?);
         self.rest = rest;
         Some(line)
     }
 }
 
 // The first line of a text and, if a newline follows it, the rest after the newline.
-fn first_line(text: &str) -> (&str, Option<&str>)
+fn line_and_rest(text: &str) -> (&str, Option<&str>)
     ensures { lines_of text.now ≡ result.0.now ∷ lines_in result.1 }
 {
     match text.split_once('\n') {

@@ -4,8 +4,8 @@ ghost use Rattle.std.proofs.Props.{props};
 ghost use Rattle.std.specs.List.{IsDistinct};
 ghost use Rattle.lnsd_links.specs.Same.{is_same_eui};
 
+use crate::name_lines::{ListLines, is_remark, name_in};
 use crate::names::{APPLICATIONS, MOST_GATEWAYS};
-use crate::name_lines::{Lines, is_remark, name_in};
 use gateway_wire::Recipient;
 use lnsd_operator::NameListFault;
 use lw_types::{Eui, laws};
@@ -23,16 +23,16 @@ pub struct NameList {
 impl NameList {
     ghost use Rattle.std.specs.Prelude.{MatchResult};
     ghost use Rattle.gateway_wire.specs.declared.recipient.Recipient.TheVariants as names;
-    ghost use Rattle.lnsd_links.specs.Names.{count, has_name, lines_of, HasAlso, IsListOf};
-    ghost use Rattle.lnsd_links.specs.Names.{IsNoListOf, IsNotAdded, IsNotOneMore, IsOneMore};
+    ghost use Rattle.lnsd_links.specs.Names.{has_name, number_of_names, lines_of, HasAlso, IsNameListOf};
+    ghost use Rattle.lnsd_links.specs.Names.{IsNoNameListOf, IsNotAdded, IsNotOneMore, IsOneMore};
 
     /// Reads a list. Each line is `gateway` and an EUI of 16 upper-case hexadecimal digits,
     /// `application` and a number from 0 to 15, empty, or a remark, which begins with `#`. A name
     /// may come twice. Refused with the number of the first line, from 1, that is none of these; as
     /// `Gateways` if more than 64 gateways are listed before such a line; or with `OutOfMemory`.
     pub fn read(alloc: Global, text: &str) -> Result<Self, NameListFault>
-        ensures { MatchResult result (IsListOf (lines_of text.now))
-            (IsNoListOf (lines_of text.now)) }
+        ensures { MatchResult result (IsNameListOf (lines_of text.now))
+            (IsNoNameListOf (lines_of text.now)) }
     {
         laws::a_line_is_its_words();
         laws::each_text_is_a_word();
@@ -46,7 +46,7 @@ impl NameList {
             applications: [false; APPLICATIONS],
         };
         let mut number: u64 = 0;
-        for line in Lines::of(text) {
+        for line in ListLines::of(text) {
             number = number.saturating_add(1);
             if let Err(fault) = list.add_line(line, number) {
                 return Err(fault);
@@ -117,7 +117,7 @@ impl NameList {
 
     /// The number of names.
     pub fn count(&self) -> usize
-        ensures { result ≡ count self.now }
+        ensures { result ≡ number_of_names self.now }
     {
         let applications = self.applications.iter().filter(|it| **it).count();
         self.gateways.len() + applications

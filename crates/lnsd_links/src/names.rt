@@ -113,13 +113,13 @@ pub enum Ungranted {
 
 impl Directory {
     ghost use Rattle.std.specs.Prelude.{◌≢◌, ◌↔◌, ◌<◌, IsSome, IfOk, IsOk, IsTrue};
-    ghost use Rattle.std.specs.Prelude.{Err, MatchBool, MatchResult, false};
+    ghost use Rattle.std.specs.Prelude.{Err, IfErr, MatchBool, MatchResult, false};
     ghost use Rattle.gateway_wire.specs.declared.recipient.Recipient.TheVariants as names;
     ghost use Rattle.lw_types.specs.declared.identifiers.Eui.{Eui};
     ghost use Rattle.lnsd_links.specs.Linked.{gateway_link, link_of, ring_of};
-    ghost use Rattle.lnsd_links.specs.Linked.{is_listed, may_greet, may_take_over, IsHeld};
-    ghost use Rattle.lnsd_links.specs.Linked.{IsLinked, IsUnlinked};
-    ghost use Rattle.lnsd_links.specs.declared.names.Ungranted.TheVariants.{Unlisted};
+    ghost use Rattle.lnsd_links.specs.Linked.{has_link_or_room, is_listed, may_greet, may_take_over};
+    ghost use Rattle.lnsd_links.specs.Linked.{IsHeld, IsLinked, IsUnlinked};
+    ghost use Rattle.lnsd_links.specs.declared.names.Ungranted.TheVariants.{Full, Unlisted};
 
     /// A directory without links. If `first_ring` is given, applications have rings of their own,
     /// from that one on. If `listed` is given, only its names may greet. All the memory that it
@@ -158,7 +158,13 @@ impl Directory {
         ensures { self.new ≡ record self.old { listed = Some list } }
     {
         for linked in &self.gateways {
-            close_unlisted(rt, links, &list, Recipient::Gateway(linked.gateway), Some(linked.link));
+            close_unlisted(
+                rt,
+                links,
+                &list,
+                Recipient::Gateway(linked.gateway),
+                Some(linked.link),
+            );
         }
         for (number, link) in self.applications.iter().enumerate() {
             if let Some(application) = Application::new(number as u64) {
@@ -241,7 +247,8 @@ impl Directory {
     }
 
     fn take_over_gateway(&mut self, gateway: Eui, link: usize) -> Result<Option<usize>, Ungranted>
-        ensures granted { IsOk result ↔ IsTrue (may_take_over self.old (names.Gateway gateway)) }
+        ensures granted { IsOk result ↔ IsTrue (has_link_or_room self.old (names.Gateway gateway)) }
+        ensures full { IfErr result (λ why. why ≡ Full) }
         ensures named { MatchResult result
             (λ was. (was ≡ link_of self.old (names.Gateway gateway))
             × IsLinked self.old (names.Gateway gateway) link self.new)

@@ -22,11 +22,11 @@ impl Count {
 
 /// A number that only grows, which one thread sets and others read.
 #[derive(Drop)]
-pub struct Mark(AtomicU64);
+pub struct Highest(AtomicU64);
 
-impl Mark {
+impl Highest {
     fn zero() -> Self {
-        Mark(AtomicU64::new(0))
+        Highest(AtomicU64::new(0))
     }
 
     /// Sets the number, unless it is higher already.
@@ -57,7 +57,7 @@ pub struct Counts {
     /// How often decisions became durable.
     pub commits: Count,
     /// The number of a decision that is durable, and so are all before it.
-    pub durable: Mark,
+    pub durable: Highest,
 }
 
 impl Counts {
@@ -71,7 +71,7 @@ impl Counts {
             unlisted: Count::zero(),
             slowed: Count::zero(),
             commits: Count::zero(),
-            durable: Mark::zero(),
+            durable: Highest::zero(),
         }
     }
 }

@@ -14,7 +14,7 @@ mod timed;
 mod watching;
 
 pub use control::{ATTENDANTS, ControlSocket};
-pub use counts::{Count, Counts, Mark};
+pub use counts::{Count, Counts, Highest};
 pub use disk_times::DiskTimes;
 pub use fault::{NameListFault, ServeFault};
 pub use frame_name::FrameName;

@@ -136,7 +136,7 @@ impl<'x, B: Books, R: Threads + Wait + Sync, G: Gate, C: LifeClock> Worker<'x, B
         ensures limited { (copies : ℕ) (burst : ℕ)
             → self.old.server.now.policy.copies ≡ PerSecond copies burst
             → (now : ℕ) × (self.new.allowance ≡ Some (record
-              { per_second = copies; burst = burst; level = 0; at = now })) }
+            { per_second = copies; burst = burst; level = 0; at = now })) }
     {
         self.refusals = refused;
         self.allowance = Allowance::new(self.server.policy.copies, self.context.clock.now());

@@ -88,7 +88,16 @@ where
     let (served, said) = join(
         rt,
         || serve_on(
-            rt, alloc, store, listener, control, places, None::<&TextNames>, &gate, &clock, &times,
+            rt,
+            alloc,
+            store,
+            listener,
+            control,
+            places,
+            None::<&TextNames>,
+            &gate,
+            &clock,
+            &times,
             &mut NobodyTold,
         ),
         || clients(rt, alloc, address, &at),

@@ -2,8 +2,8 @@
 use crate::lives::{new_store, of_socket, refusal_of};
 use crate::talk::{answer, connect, ends, order};
 use lnsd_life::{
-    Monotonic, NameList, NameListFault, NameSource, NobodyTold, OpenGate, Order,
-    PlaceCount, RELOADED, ServedLife, serve_on,
+    Monotonic, NameList, NameListFault, NameSource, NobodyTold, OpenGate, Order, PlaceCount,
+    RELOADED, ServedLife, serve_on,
 };
 use lnsd_links::{Allowance, CopyCount, CopyRate};
 use lnsd_operator::DiskTimes;
@@ -42,15 +42,24 @@ const LISTS: &[(&str, Result<usize, NameListFault>)] = &[
     ("", Ok(0)),
     ("\n\n", Ok(0)),
     ("# gateways\ngateway 00000000000000B1\n\n#gateway\n", Ok(1)),
-    ("gateway 00000000000000B1\ngateway 00000000000000B1\napplication 0\napplication 15", Ok(3)),
-    ("gateway FFFFFFFFFFFFFFFF\ngateway 0000000000000000\napplication 3\napplication 3\n", Ok(3)),
+    (
+        "gateway 00000000000000B1\ngateway 00000000000000B1\napplication 0\napplication 15",
+        Ok(3),
+    ),
+    (
+        "gateway FFFFFFFFFFFFFFFF\ngateway 0000000000000000\napplication 3\napplication 3\n",
+        Ok(3),
+    ),
     ("gateway 00000000000000b1", Err(NameListFault::Line(1))),
     ("\ngateway 0000000000000B1\n", Err(NameListFault::Line(2))),
     ("gateway 00000000000000B1 \n", Err(NameListFault::Line(1))),
     ("gateway  00000000000000B1\n", Err(NameListFault::Line(1))),
     (" #\n", Err(NameListFault::Line(1))),
     ("application 3\r\n", Err(NameListFault::Line(1))),
-    ("application 0\napplication 16\n", Err(NameListFault::Line(2))),
+    (
+        "application 0\napplication 16\n",
+        Err(NameListFault::Line(2)),
+    ),
     ("application 03\n", Err(NameListFault::Line(1))),
     ("application\n", Err(NameListFault::Line(1))),
     ("Gateway 00000000000000B1\n", Err(NameListFault::Line(1))),
@@ -115,7 +124,10 @@ fn copies_come_at_their_rate(rt: HostRuntime) {
     };
     let mut link = Allowance::new(rate, moment(1000)).expect(&rt, "limited");
     for (now, copies, wanted) in PAYMENTS {
-        let later = link.pay(*copies, moment(*now)).err().map(|later| later.get());
+        let later = link
+            .pay(*copies, moment(*now))
+            .err()
+            .map(|later| later.get());
         assert!(rt; later == *wanted, "{copies} at {now}: {later:?}");
     }
     assert!(rt; Allowance::new(CopyRate::Unlimited, moment(0)).is_none());
@@ -197,7 +209,16 @@ where
     let (served, said) = join(
         rt,
         || serve_on(
-            rt, alloc, store, listener, control, places, Some(names), &OpenGate, &clock, &times,
+            rt,
+            alloc,
+            store,
+            listener,
+            control,
+            places,
+            Some(names),
+            &OpenGate,
+            &clock,
+            &times,
             &mut NobodyTold,
         ),
         || clients(rt, alloc, address, &at),
@@ -225,9 +246,25 @@ fn listed_names_may_greet(rt: HostRuntime) {
     let names = names(rt.alloc(), LISTS_OF_A_LIFE);
     let answers = live(&rt, rt.alloc(), &names).expect(&rt, "a life");
     assert!(rt; answers.same);
-    assert!(rt; answers.line.as_str() == "names line 2\n\n", "{}", answers.line);
-    assert!(rt; answers.places.as_str() == "names places\n\n", "{}", answers.places);
+    assert!(rt;
+        answers.line.as_str() == "names line 2\n\n",
+        "{}",
+        answers.line
+    );
+    assert!(rt;
+        answers.places.as_str() == "names places\n\n",
+        "{}",
+        answers.places
+    );
     assert!(rt; answers.reloaded.as_str().trim_end() == RELOADED.trim_end());
-    assert!(rt; answers.status.as_str().contains("unlisted 3\n"), "{}", answers.status);
-    assert!(rt; answers.status.as_str().contains("taken_over 0\n"), "{}", answers.status);
+    assert!(rt;
+        answers.status.as_str().contains("unlisted 3\n"),
+        "{}",
+        answers.status
+    );
+    assert!(rt;
+        answers.status.as_str().contains("taken_over 0\n"),
+        "{}",
+        answers.status
+    );
 }

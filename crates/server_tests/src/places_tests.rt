@@ -161,7 +161,17 @@ where
     let (served, said) = join(
         rt,
         || serve_on(
-            rt, alloc, store, listener, control, places, None::<&TextNames>, &OpenGate, &clock, &times, &mut begun,
+            rt,
+            alloc,
+            store,
+            listener,
+            control,
+            places,
+            None::<&TextNames>,
+            &OpenGate,
+            &clock,
+            &times,
+            &mut begun,
         ),
         || clients(rt, alloc, address, &at),
     );

@@ -1,5 +1,6 @@
 pub mod Lawful
 pub mod Windows
+pub mod Seen
 pub mod Standing
 mod Adding
 mod Beginnings
@@ -7,3 +8,4 @@ mod Counts
 mod Extending
 mod HandingIn
 mod Remembering
+mod Taking

@@ -5,7 +5,7 @@ use Rattle.session_core.specs.Calls.{work_of}
 use Rattle.session_core.specs.Core.{CoreState, IsLawfulCore}
 use Rattle.session_core.specs.Events.{IsTurn}
 use Rattle.session_core.specs.Handling.{IsWholeTurn, decisions_in}
-use Rattle.session_core.specs.History.{HasAdded, IsWhole, LacksOnly, own_commands}
+use Rattle.session_core.specs.History.{HasAdded, HasAllDecisions, LacksOnly, own_commands}
 use Rattle.session_core.specs.declared.event.Event.{Event}
 use Rattle.session_core.specs.declared.event.Event.TheVariants.{Hear, Tick, Ask}
 use Rattle.session_core.specs.declared.outcome.TheConstants.{MOST_OUTCOMES}
@@ -23,7 +23,7 @@ event_whole joins (Ask command) old new moment turn is lawful few = asked-whole 
 module _ (event : Event) (old new : CoreState) (turn : Turn) (lawful : IsLawfulCore old)
     (whole : IsWholeTurn old (own_commands event) turn new) (taken : new.decisions.taken ≡ old.decisions.taken) where
   -- after a turn a history that was whole lacks the turn's decisions
-  pub then_lacks : (history : List Decision) → IsWhole old.decisions history → LacksOnly new.decisions history
+  pub then_lacks : (history : List Decision) → HasAllDecisions old.decisions history → LacksOnly new.decisions history
   then_lacks history before =
       let count = lawful.decisions.count in
       let made = before.made in
@@ -37,7 +37,7 @@ module _ (event : Event) (old new : CoreState) (turn : Turn) (lawful : IsLawfulC
       }
 
   -- and if it is whole again, it ends with them
-  pub then_added : (history : List Decision) → IsWhole new.decisions history → HasAdded event turn history
+  pub then_added : (history : List Decision) → HasAllDecisions new.decisions history → HasAdded event turn history
   then_added history after =
       let from : turn.from ≡ old.decisions.taken + length old.decisions.log = whole.from ∙ sym lawful.decisions.count in
       let log : drop old.decisions.taken history ≡ old.decisions.log ++ decisions_in (whole.closed ++ whole.asked) =

@@ -1,6 +1,6 @@
 -- The history of a life's decisions, and what an event adds to it.
-use Rattle.std.specs.Prelude.{◌≡◌, ◌≤◌, ◌+◌, ◌==◌, ◌++◌, ◌∷◌, [], ℕ, true, List, All, MatchBool}
-use Rattle.std.specs.Prelude.{drop, length, map, take}
+use Rattle.std.specs.Prelude.{◌≡◌, ◌≤◌, ◌==◌, ◌++◌, ◌∷◌, [], ℕ, true, List, All, MatchBool}
+use Rattle.std.specs.Prelude.{drop, length, map}
 use Rattle.logbook.specs.Pages.{Book, Cell, Named, Step, View}
 use Rattle.devices.specs.declared.command.Command.{Command}
 use Rattle.session_core.specs.State.{DecisionsState}
@@ -14,15 +14,16 @@ use Rattle.sessions.specs.declared.decision.Decision.{Decision}
 pub record IsHistory (cells : List Cell) (log : List Decision) : Type 0 where
   pub words : cells ≡ (length log, true) ∷ (0, true) ∷ []
 
-abbrev pub head_of : Book → Named
-head_of b = record { tracked = true; key = 0; book = b }
+abbrev pub length_word_of : Book → Named
+length_word_of b = record { tracked = true; key = 0; book = b }
 
 -- a decision was added to all that had been seen; or the log is longer, and was seen
-abbrev pub Adds : Step Decision → View Decision ℕ → ℕ → View Decision ℕ → Type 0
-Adds s v found w = MatchBool (found == s.old) (w.0 ≡ v.0 ++ s.ask ∷ []) (length w.0 ≡ found)
+abbrev pub AppendsDecision : Step Decision → View Decision ℕ → ℕ → View Decision ℕ → Type 0
+AppendsDecision s v found w =
+    MatchBool (found == s.old) (w.0 ≡ v.0 ++ s.ask ∷ []) (length w.0 ≡ found)
 
 -- the history has each decision, and those that wait are its end
-pub record IsWhole (s : DecisionsState) (history : List Decision) : Type 0 where
+pub record HasAllDecisions (s : DecisionsState) (history : List Decision) : Type 0 where
   pub rest : s.log ≡ drop s.taken history
   pub made : s.made ≡ length history
 

@@ -9,3 +9,5 @@ pub mod History
 pub mod KeptCore
 pub mod Standing
 pub mod Seats
+pub mod Taking
+pub mod Observing

@@ -6,10 +6,14 @@ ghost use Rattle.lw_types.specs.declared.refusal.Refusal.TheVariants.{OutOfMemor
 ghost use Rattle.devices.specs.declared.command.Command.TheVariants as commands;
 ghost use Rattle.session_core.specs.Calls.{work_of};
 ghost use Rattle.session_core.specs.Core.{CoreState, IsLawfulCore, with_outcome};
-ghost use Rattle.session_core.specs.Events.{Asks, Closes, ClosesOldest, Handles, HandsInOldest};
-ghost use Rattle.session_core.specs.Events.{HasClosed, IsHeard, has_due, core_at_moment};
+ghost use Rattle.session_core.specs.Events.{Asks, Handles, HandsInOldest, IsHeard, has_due};
+ghost use Rattle.session_core.specs.Events.{core_at_moment};
+ghost use Rattle.session_core.specs.Observing.{ClosesOldestSeen, ClosesSeen, HasClosedSeen};
+ghost use Rattle.session_core.specs.Observing.{closed_frame};
 
-use crate::{Core, Event, Moment, Outcome};
+use crate::decisions::Decisions;
+use crate::observed::Observed;
+use crate::{ClosedFrame, Core, Event, Moment, Outcome};
 use devices::{Command, Heard, Hearings, is_receivable};
 use lw_types::{FrameCopy, PhyPayload, Refusal};
 use std::alloc::AllocError;
@@ -17,8 +21,9 @@ use std::alloc::AllocError;
 impl Core {
     /// Moves the effective time and closes the windows that are due. If memory runs out for one of
     /// them, it and those after it stay open.
-    pub(crate) fn begin(&mut self, moment: Moment) -> Result<(), Refusal>
-        ensures closed { HasClosed (core_at_moment self.old moment) self.new }
+    pub(crate) fn begin(&mut self, moment: Moment, observed: &mut Observed) -> Result<(), Refusal>
+        ensures closed { HasClosedSeen (core_at_moment self.old moment) self.new
+            observed.old observed.new }
         ensures due { MatchResult result
             (λ _. has_due self.new ≡ false)
             (λ e. (e ≡ OutOfMemory) × (has_due self.new ≡ true)) }
@@ -26,20 +31,21 @@ impl Core {
         self.clock = later(self.clock, moment);
         self.closings = 0;
         let open = self.windows.len();
-        let result = self.close_due();
+        let result = self.close_due(observed);
         self.closings = open - self.windows.len();
         result
     }
 
     // Closes the windows that are due, the oldest first.
-    fn close_due(&mut self) -> Result<(), Refusal>
-        ensures closed { (count : ℕ) × Closes count self.old self.new }
+    fn close_due(&mut self, observed: &mut Observed) -> Result<(), Refusal>
+        ensures closed { (count : ℕ)
+            × ClosesSeen count self.old self.new observed.old observed.new }
         ensures due { MatchResult result
             (λ _. has_due self.new ≡ false)
             (λ e. (e ≡ OutOfMemory) × (has_due self.new ≡ true)) }
     {
         for _i in 0..self.windows.len() {
-            if !self.close_oldest()? {
+            if !self.close_oldest(observed)? {
                 return Ok(());
             }
         }
@@ -47,11 +53,12 @@ impl Core {
     }
 
     // Closes the oldest window if it is due, and returns whether it was.
-    fn close_oldest(&mut self) -> Result<bool, Refusal>
+    fn close_oldest(&mut self, observed: &mut Observed) -> Result<bool, Refusal>
         ensures { MatchResult result
-            (λ done. MatchBool done (ClosesOldest self.old self.new)
-            ((self.new ≡ self.old) × (has_due self.old ≡ false)))
-            (λ e. (e ≡ OutOfMemory) × ((self.new ≡ self.old) × (has_due self.old ≡ true))) }
+            (λ done. MatchBool done (ClosesOldestSeen self.old self.new observed.old observed.new)
+            (((self.new ≡ self.old) × (observed.new ≡ observed.old)) × (has_due self.old ≡ false)))
+            (λ e. (e ≡ OutOfMemory) × (((self.new ≡ self.old) × (observed.new ≡ observed.old))
+            × (has_due self.old ≡ true))) }
     {
         let Some(answer) = self.hand_in_oldest() else {
             return Ok(false);
@@ -59,8 +66,10 @@ impl Core {
         if is_starved(&answer) {
             return Err(Refusal::OutOfMemory);
         }
-        let heard = self.windows.close(self.clock.get());
-        self.observed.add(heard, answer.err());
+        let Some(heard) = self.windows.close(self.clock.get()) else {
+            return Ok(false);
+        };
+        observed.add(closed_frame(heard, answer, &self.decisions));
         Ok(true)
     }
 
@@ -153,6 +162,21 @@ fn is_starved(answer: &Result<(), Refusal>) -> bool
     ensures { MatchBool result (answer.now ≡ Err OutOfMemory) (answer.now ≢ Err OutOfMemory) }
 {
     matches!(answer, Err(Refusal::OutOfMemory))
+}
+
+// The frame of a window that was closed, as observers are given it.
+fn closed_frame(heard: Heard, answer: Result<(), Refusal>, decisions: &Decisions) -> ClosedFrame
+    ensures { result ≡ closed_frame heard answer decisions.now }
+{
+    let slot = match answer {
+        Ok(()) => decisions.last_slot(),
+        Err(_) => None,
+    };
+    ClosedFrame {
+        heard,
+        refused: answer.err(),
+        slot,
+    }
 }
 
 // A frame with its copies, in newly allocated memory.

@@ -1,10 +1,12 @@
 // The decisions of one life.
-ghost use Rattle.std.specs.Prelude.{◌≡◌, ◌≤◌, ◌<◌, MatchResult, OnErr, Err, false, take, drop, length};
+ghost use Rattle.std.specs.Prelude.{◌≡◌, ◌≤◌, ◌<◌, MatchResult, OnErr, Err, false};
+ghost use Rattle.std.specs.Prelude.{take, drop, length};
 ghost use Rattle.std.specs.Prelude.{[], Some, slice_get};
 ghost use Rattle.lw_types.specs.declared.refusal.Refusal.TheVariants.{Backlog, OutOfMemory};
 ghost use Rattle.session_core.specs.State.{IsLawful, now_of, new_decisions, last_number};
 ghost use Rattle.session_core.specs.Deciding.{Makes, IsWithoutMemory, has_room, step_if_room};
 ghost use Rattle.session_core.specs.Deciding.{after_taking};
+ghost use Rattle.session_core.specs.Observing.{last_slot};
 ghost use Rattle.sessions.specs.Decision.{AnswersTo};
 ghost use Rattle.sessions.specs.Served.{heard_command};
 
@@ -102,6 +104,16 @@ impl Decisions {
         ensures { slice_get self.now.log place ≡ Some result.now }
     {
         &self.log[place]
+    }
+
+    /// The slot of the last decision, if one waits to be taken.
+    pub(crate) fn last_slot(&self) -> Option<u16>
+        ensures { result ≡ last_slot self.now }
+    {
+        match self.log.back() {
+            Some(decision) => Some(decision.slot),
+            None => None,
+        }
     }
 
     /// The number of decisions that wait to be taken.

@@ -1,5 +1,6 @@
 // The core, and the events that come to it.
-ghost use Rattle.std.specs.Prelude.{◌≡◌, ◌≤◌, ◌<◌, IsSome, MatchResult, Some, slice_get, take, length};
+ghost use Rattle.std.specs.Prelude.{◌≡◌, ◌≤◌, ◌<◌, IsSome, MatchResult, Some};
+ghost use Rattle.std.specs.Prelude.{slice_get, take, length};
 ghost use Rattle.lw_types.specs.declared.refusal.Refusal.TheVariants.{OutOfMemory};
 ghost use Rattle.devices.specs.declared.command.Command.TheVariants as commands;
 ghost use Rattle.session_core.specs.State.{now_of, last_number};
@@ -7,10 +8,11 @@ ghost use Rattle.session_core.specs.Deciding.{after_taking};
 ghost use Rattle.session_core.specs.Calls.{work_of};
 ghost use Rattle.session_core.specs.Core.{IsLawfulCore, new_core};
 ghost use Rattle.session_core.specs.Events.{IsTurn, Asks, Hears, Starves, Ticks, next_due};
+ghost use Rattle.session_core.specs.Observing.{IsSeenTurn, nothing_seen};
 
 use crate::decisions::Decisions;
 use crate::observed::Observed;
-use crate::{ClosedFrame, Event, MOST_OUTCOMES, Moment, Most, Outcome, Turn};
+use crate::{Event, MOST_OUTCOMES, Moment, Most, Outcome, Turn};
 use circular_buffer::HeapCircularBuffer;
 use dedup::Windows;
 use devices::{Command, MacQueueing, Provisioning, Queueing};
@@ -29,7 +31,6 @@ pub struct Core {
     pub(crate) windows: Windows,
     pub(crate) closings: usize,
     pub(crate) outcomes: HeapCircularBuffer<Outcome>,
-    pub(crate) observed: Observed,
 }
 
 // By hand, so that it is proved once: a derived drop is proved again at each use of the type.
@@ -42,7 +43,6 @@ impl Drop for Core {
             windows: _,
             closings: _,
             outcomes: _,
-            observed: _,
         } = self;
     }
 }
@@ -73,7 +73,6 @@ impl Core {
             windows: Windows::new(alloc),
             closings: 0,
             outcomes: HeapCircularBuffer::with_capacity(alloc, MOST_OUTCOMES)?,
-            observed: Observed::new(alloc),
         })
     }
 
@@ -140,23 +139,6 @@ impl Core {
         self.windows.len()
     }
 
-    /// From now on the frames whose windows are closed are kept until they are taken. At most 1,024
-    /// are kept, the most that one event can close.
-    pub fn observe(&mut self)
-        ensures { self.new ≡ self.old }
-    {
-        self.observed.begin();
-    }
-
-    /// Returns the frames that were kept, the oldest first. Before `observe` was called there are
-    /// none, and frames for which memory ran out are missing. No contract says which frames they
-    /// are.
-    pub fn take_closed(&mut self) -> Vec<ClosedFrame>
-        ensures { self.new ≡ self.old }
-    {
-        self.observed.take()
-    }
-
     /// The effective time: the latest moment that an event of this life has brought, 0 before the
     /// first.
     pub fn effective_time(&self) -> Moment
@@ -193,13 +175,34 @@ impl Core {
         ensures turn { IsTurn self.old moment (work_of event) result self.new }
         ensures lawful { IsLawfulCore self.old }
     {
+        let mut observed = self.observed(false);
+        self.handle_seen(moment, event, &mut observed)
+    }
+
+    /// The same, while somebody may observe which windows it closes.
+    pub(crate) fn handle_seen(
+        &mut self,
+        moment: Moment,
+        event: Event,
+        observed: &mut Observed,
+    ) -> Turn
+        ensures turn { IsSeenTurn self.old moment event result self.new observed.old observed.new }
+        ensures lawful { IsLawfulCore self.old }
+    {
         let from = self.made();
-        let refused = match self.begin(moment) {
+        let refused = match self.begin(moment, observed) {
             Ok(()) => self.work(event),
             Err(refusal) => Some(refusal),
         };
         let to = self.made();
         Turn { from, to, refused }
+    }
+
+    /// What observers are given before an event: nothing. Frames are kept if somebody observes.
+    pub(crate) fn observed(&self, is_kept: bool) -> Observed
+        ensures { result ≡ nothing_seen is_kept }
+    {
+        Observed::new(self.alloc, is_kept)
     }
 
     /// A gateway heard a frame ([`Core::handle`]).
@@ -252,7 +255,8 @@ impl Core {
         ensures lawful { IsLawfulCore self.old }
     {
         let from = self.made();
-        let refused = match self.begin(moment) {
+        let mut observed = self.observed(false);
+        let refused = match self.begin(moment, &mut observed) {
             Ok(()) => self.pass_over(command),
             Err(refusal) => refusal,
         };
@@ -270,7 +274,8 @@ impl Core {
         ensures lawful { IsLawfulCore self.old }
     {
         let from = self.made();
-        let _ = self.begin(moment);
+        let mut observed = self.observed(false);
+        let _ = self.begin(moment, &mut observed);
         let to = self.made();
         Turn {
             from,

@@ -1,7 +1,7 @@
 // The history of a life's decisions. It exists in proofs alone: what threads share is its length.
-ghost use Rattle.std.specs.Prelude.{◌≡◌, ◌<◌, ◌^◌, ◌++◌, ◌∷◌, ◌⊎◌, [], length, IsTrue};
+ghost use Rattle.std.specs.Prelude.{◌≡◌, ◌<◌, ◌^◌, ◌↔◌, ◌++◌, ◌∷◌, [], length, false, IsTrue};
 ghost use mathlib.Core.List.{IsPrefix};
-ghost use Rattle.session_core.specs.History.{head_of};
+ghost use Rattle.session_core.specs.History.{length_word_of};
 
 use crate::Books;
 use logbook::{Gain, Offer, Plain, Play, Rule, Seen, Start, Word};
@@ -42,9 +42,9 @@ impl Gain<Decision, u64> for NothingGained {
 pub struct AddDecision;
 
 impl Play<Decision, u64> for AddDecision {
-    ghost use Rattle.session_core.specs.History.{Adds};
+    ghost use Rattle.session_core.specs.History.{AppendsDecision};
 
-    ghost then = { Adds };
+    ghost then = { AppendsDecision };
 }
 
 impl Plain<Decision, Decision, u64> for AddDecision {
@@ -60,7 +60,7 @@ pub struct BlankHistory {
     head: Word<Decision, u64, HistoryRule>,
     seen: Seen<Decision, u64, HistoryRule>,
     pub ghost empty: { seen.log ≡ [] },
-    pub ghost head_is: { head ≡ head_of seen.book },
+    pub ghost head_is: { head ≡ length_word_of seen.book },
 }
 
 impl BlankHistory {
@@ -97,7 +97,7 @@ impl BlankHistory {
 pub(crate) struct HistoryHead<B: Books> {
     head: Word<Decision, u64, HistoryRule>,
     of: PhantomData<B>,
-    ghost head_is: { head ≡ head_of B.history },
+    ghost head_is: { head ≡ length_word_of B.history },
 }
 
 /// A beginning of a life's decisions that was seen. In contracts it is the list of these.
@@ -139,19 +139,14 @@ impl<B: Books> History<B> {
         }
     }
 
-    /// The longer of two beginnings, which begins with the other.
-    pub fn longer(&self, other: &History<B>) -> History<B>
-        ensures one { (result ≡ self.now) ⊎ (result ≡ other.now) }
-        ensures this { IsPrefix self.now result }
-        ensures that { IsPrefix other.now result }
+    /// Whether the other begins with this one. If it doesn't, this one begins with the other.
+    pub fn begins(&self, other: &History<B>) -> bool
+        ensures exact { IsTrue result ↔ IsPrefix self.now other.now }
+        ensures otherwise { result ≡ false → IsPrefix other.now self.now }
     {
         let mut both = self.seen.again();
         both.learn(&other.seen);
-        if self.count < other.count {
-            other.again()
-        } else {
-            self.again()
-        }
+        self.count <= other.count
     }
 
     // Adds a decision. Returns false if the history is longer than what was seen.

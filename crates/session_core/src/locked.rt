@@ -1,9 +1,12 @@
 // A core that several threads share, behind a lock.
-ghost use Rattle.std.specs.Prelude.{◌≡◌, ◌+◌, ◌≤◌, drop, length, take, IfErr, IfOk, MatchResult};
+ghost use Rattle.std.specs.Prelude.{◌≡◌, IfErr, IfSome};
 ghost use Rattle.lw_types.specs.declared.refusal.Refusal.TheVariants.{OutOfMemory};
 ghost use Rattle.session_core.specs.Calls.{call_kind_of};
-ghost use Rattle.session_core.specs.History.{HasAdded, IsWhole};
+ghost use Rattle.session_core.specs.History.{HasAdded};
+ghost use Rattle.session_core.specs.Observing.{IsSeenSomewhere, IsSeenTurn, frames_seen};
+ghost use Rattle.session_core.specs.Observing.{nothing_seen};
 ghost use Rattle.session_core.specs.Seats.{HasMade};
+ghost use Rattle.session_core.specs.Taking.{DrawsNext};
 ghost use Rattle.session_core.specs.declared.event.CallKind.TheVariants.{Asked, Heard, Ticked};
 
 use crate::{Books, ClosedFrame, Event, History, Moment, Most, Outcome, Seat, Shared, Taker, Turn};
@@ -17,11 +20,14 @@ use std::sync::{Mutex, Wait};
 #[derive(Drop)]
 pub struct Handled<B: Books> {
     pub turn: Turn,
-    /// The decisions of the life up to the end of the call.
-    pub history: History<B>,
+    /// The decisions of the life up to the end of the call. `None` if one of them is missing. This
+    /// never happens, since nobody else adds to the history, but no clause says so.
+    pub history: Option<History<B>>,
     /// The frames whose windows the call closed, the oldest first. There are none unless the core
     /// is observed ([`Shared::observe`]).
     pub closed: Vec<ClosedFrame>,
+    /// Whether one of these frames is missing, since memory ran out for it.
+    pub lacks_frames: bool,
 }
 
 /// The calls of [`Shared`]; each locks it for the duration of that call alone. A server's workers
@@ -29,10 +35,11 @@ pub struct Handled<B: Books> {
 /// closer asks for moments. The calls of one kind of event are for callers that don't need the
 /// frames whose windows were closed, for example tests.
 ///
-/// Across threads, a caller knows what its own seat says. Exactly one call was made through it. Its
-/// share grew by exactly what the call made, and the seat's last call is this one: of this kind, at
-/// this moment, with the refusal that is returned. The kind says whose copy or command was handed
-/// in; which one it was is in no contract. A call that waits for the lock need not return.
+/// Across threads, a caller knows what its own seat says, and the history. Exactly one call was
+/// made through the seat. Its share grew by exactly what the call made, and the seat's last call is
+/// this one: of this kind, at this moment, with the refusal that is returned. The kind says whose
+/// copy or command was handed in; which copy it was is in no contract. The decisions of the call
+/// stand in the history at the turn's numbers. A call that waits for the lock need not return.
 pub trait Sessions<B: Books> {
     /// The number of decisions made in this life; for inspection, for example by tests.
     fn made<R: Wait>(&self, rt: &R) -> u64;
@@ -47,7 +54,9 @@ pub trait Sessions<B: Books> {
         event: Event,
     ) -> Handled<B>
         ensures share { HasMade seat.old seat.new moment (call_kind_of event) result.turn }
-        ensures added { HasAdded event result.turn result.history };
+        ensures added { IfSome result.history (HasAdded event result.turn) }
+        ensures seen { IsSeenSomewhere moment event result.turn result.closed.items
+            result.lacks_frames };
 
     /// A gateway heard a frame ([`Sessions::handle`]).
     fn hear<R: Wait>(&self, rt: &R, seat: &mut Seat<B>, moment: Moment, copy: FrameCopy) -> Turn
@@ -99,31 +108,9 @@ pub trait Sessions<B: Books> {
         self.handle(rt, seat, moment, event).turn
     }
 
-    /// Takes the oldest untaken decisions, at most `max` of them. They stand in the history where the
-    /// taker's share ended.
-    fn take_of<R: Wait>(
-        &self,
-        rt: &R,
-        taker: &mut Taker<B>,
-        max: Most,
-    ) -> Result<(Batch, History<B>), Refusal>
-        ensures share { MatchResult result
-            (λ taken. taker.new ≡ taker.old + length taken.0)
-            (λ e. (e ≡ OutOfMemory) × (taker.new ≡ taker.old)) }
-        ensures few { IfOk result (λ taken. length taken.0 ≤ max) }
-        ensures oldest { IfOk result (λ taken. taken.0
-            ≡ take (length taken.0) (drop taker.old taken.1)) };
-
-    /// The same, for callers that don't need the history.
+    /// Takes the oldest untaken decisions, at most `max` of them ([`Shared::take`]).
     fn take<R: Wait>(&self, rt: &R, taker: &mut Taker<B>, max: Most) -> Result<Batch, Refusal>
-        ensures share { MatchResult result
-            (λ batch. taker.new ≡ taker.old + length batch)
-            (λ e. (e ≡ OutOfMemory) × (taker.new ≡ taker.old)) }
-        ensures few { IfOk result (λ batch. length batch ≤ max) }
-    {
-        let (batch, _) = self.take_of(rt, taker, max)?;
-        Ok(batch)
-    }
+        ensures { DrawsNext taker.old max result taker.new };
 
     /// The outcomes of the last commands that were handed in to be decided; for inspection, for
     /// example by tests.
@@ -150,17 +137,11 @@ impl<B: Books> Sessions<B> for Mutex<Shared<B>> {
         event: Event,
     ) -> Handled<B> {
         let mut sessions = self.lock(rt);
-        handle_in(rt, &mut sessions, seat, moment, event)
+        handle_in(&mut sessions, seat, moment, event)
     }
 
-    fn take_of<R: Wait>(
-        &self,
-        rt: &R,
-        taker: &mut Taker<B>,
-        max: Most,
-    ) -> Result<(Batch, History<B>), Refusal> {
-        let mut sessions = self.lock(rt);
-        take_in(rt, &mut sessions, taker, max)
+    fn take<R: Wait>(&self, rt: &R, taker: &mut Taker<B>, max: Most) -> Result<Batch, Refusal> {
+        self.lock(rt).take(taker, max)
     }
 
     fn outcomes<R: Wait>(&self, rt: &R, alloc: Global) -> Result<Vec<Outcome>, Refusal> {
@@ -177,57 +158,29 @@ impl<B: Books> Sessions<B> for Mutex<Shared<B>> {
 }
 
 // An event comes to a core whose lock is held.
-fn handle_in<B: Books, R: Wait>(
-    rt: &R,
+fn handle_in<B: Books>(
     shared: &mut Shared<B>,
     seat: &mut Seat<B>,
     moment: Moment,
     event: Event,
 ) -> Handled<B>
     ensures share { HasMade seat.old seat.new moment (call_kind_of event) result.turn }
-    ensures added { HasAdded event result.turn result.history }
+    ensures added { IfSome result.history (HasAdded event result.turn) }
+    ensures seen { IsSeenTurn shared.old.core moment event result.turn shared.new.core
+        (nothing_seen shared.old.is_observed)
+        (frames_seen shared.old.is_observed result.closed.items result.lacks_frames) }
 {
     sessions::laws::joining();
     let core = shared.core();
     let _ = core.made();
     let _ = core.outcomes();
-    let turn = shared.handle(seat, moment, event);
-    let history = history_of(rt, shared);
-    let closed = shared.take_closed();
+    let mut observed = shared.observed();
+    let turn = shared.handle_seen(seat, moment, event, &mut observed);
+    let (closed, lacks_frames) = observed.into_frames();
     Handled {
         turn,
-        history,
+        history: shared.history(),
         closed,
+        lacks_frames,
     }
-}
-
-// Takes from a core whose lock is held.
-fn take_in<B: Books, R: Wait>(
-    rt: &R,
-    shared: &mut Shared<B>,
-    taker: &mut Taker<B>,
-    max: Most,
-) -> Result<(Batch, History<B>), Refusal>
-    ensures share { MatchResult result
-        (λ taken. taker.new ≡ taker.old + length taken.0)
-        (λ e. (e ≡ OutOfMemory) × (taker.new ≡ taker.old)) }
-    ensures few { IfOk result (λ taken. length taken.0 ≤ max) }
-    ensures oldest { IfOk result (λ taken. taken.0
-        ≡ take (length taken.0) (drop taker.old taken.1)) }
-{
-    let history = history_of(rt, shared);
-    let batch = shared.take(taker, max)?;
-    Ok((batch, history))
-}
-
-// The history, which has each decision. If it lacked one, which can't be, this would never return.
-fn history_of<B: Books, R: Wait>(rt: &R, shared: &Shared<B>) -> History<B>
-    ensures { (result ≡ shared.now.history) × IsWhole shared.now.core.decisions result }
-{
-    for _ in rt.forever() {
-        if let Some(history) = shared.history() {
-            return history;
-        }
-    }
-    unreachable!()
 }

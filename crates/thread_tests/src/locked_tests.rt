@@ -9,8 +9,8 @@ use crate::asked::{
 use devices::{Command, Item};
 use lw_types::{Eui, Refusal};
 use session_core::{
-    Books, CallKind, Core, Event, LastCall, Moment, Most, Outcome, Seat, Sessions, Shared, Taker,
-    Turn,
+    BlankHistory, Books, CallKind, Core, Event, Handled, LastCall, Moment, Most, Outcome, Seat,
+    Sessions, Shared, Taker, Turn,
 };
 use sessions::{Batch, Decision};
 use std::alloc::Global;
@@ -175,6 +175,20 @@ fn call_kind_of(comes: &Comes) -> Result<CallKind, Refusal> {
     })
 }
 
+// Whether the history has each decision so far, and observers are given this number of frames, each
+// refused or of a slot.
+fn shows_all<B: Books>(handled: &Handled<B>, closings: usize) -> bool {
+    let made = match &handled.history {
+        Some(history) => history.len(),
+        None => return false,
+    };
+    let mut all = made == handled.turn.to && handled.closed.len() == closings;
+    for frame in &handled.closed {
+        all = all && frame.slot.is_some() == frame.refused.is_none();
+    }
+    all && !handled.lacks_frames
+}
+
 // Whether two batches have the same decisions.
 fn are_same(a: &Batch, b: &Batch) -> bool {
     let mut same = a.len() == b.len();
@@ -239,7 +253,12 @@ impl<B: Books> Lives<'_, B> {
         let plain = answer(self.alloc, self.core, at, comes)?;
         let locked = if self.handles {
             let event = event_of(self.alloc, comes)?;
-            self.sessions.handle(rt, self.seat, at, event).turn
+            let handled = self.sessions.handle(rt, self.seat, at, event);
+            if !shows_all(&handled, self.core.closings()) {
+                let closed = handled.closed.len();
+                return Ok(Some(format!(in self.alloc; "{closed} frames, or no history")?));
+            }
+            handled.turn
         } else {
             locked_answer(rt, self.alloc, self.sessions, self.seat, at, comes)?
         };
@@ -310,15 +329,18 @@ fn plays<B: Books, R: Wait>(
     alloc: Global,
     made: Blank,
     taken: Blank,
+    history: BlankHistory,
     script: u8,
     each: bool,
 ) -> Result<String, Refusal>
     requires made { (made.name ≡ B.made_name) × (made.parts ≡ B.made_parts) × (made.parts ≡ 1) }
     requires taken { (taken.name ≡ B.taken_name) × (taken.parts ≡ 1) }
+    requires history { history.seen.book ≡ B.history }
 {
     let mut core = new_core(alloc, 8)?;
-    let (mut shared, mut taker) = Shared::<B>::new(new_core(alloc, 8)?, 1, made, taken);
+    let (mut shared, mut taker) = Shared::<B>::new(new_core(alloc, 8)?, 1, made, taken, history);
     let mut seat = shared.seat();
+    shared.observe();
     let sessions = Mutex::new(shared);
     let mut lives = Lives {
         alloc,
@@ -338,7 +360,8 @@ fn plays<B: Books, R: Wait>(
 
 // A life with one seat: what is wrong in it.
 fn plays_alone<R: Wait>(rt: &R, alloc: Global, script: u8, each: bool) -> Result<String, Refusal> {
-    plays::<Brand, R>(rt, alloc, Blank::new(1), Blank::new(1), script, each)
+    let history = BlankHistory::new();
+    plays::<Brand, R>(rt, alloc, Blank::new(1), Blank::new(1), history, script, each)
 }
 
 #[test]

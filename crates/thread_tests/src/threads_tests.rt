@@ -3,7 +3,7 @@ ghost use Rattle.std.specs.Prelude.{◌≡◌};
 
 use crate::asked::{moment, new_core, provisioning};
 use lw_types::Refusal;
-use session_core::{Books, Seat, Sessions, Shared};
+use session_core::{BlankHistory, Books, Seat, Sessions, Shared};
 use std::alloc::Global;
 use std::marker::Brand;
 use std::sync::ledger::Blank;
@@ -33,11 +33,13 @@ fn two_make<B: Books + Send + Sync, R: Threads + Wait + Sync>(
     alloc: Global,
     made: Blank,
     taken: Blank,
+    history: BlankHistory,
 ) -> Result<Option<u64>, Refusal>
     requires made { (made.name ≡ B.made_name) × (made.parts ≡ B.made_parts) × (made.parts ≡ 2) }
     requires taken { (taken.name ≡ B.taken_name) × (taken.parts ≡ 1) }
+    requires history { history.seen.book ≡ B.history }
 {
-    let (mut shared, taker) = Shared::<B>::new(new_core(alloc, 2000)?, 2, made, taken);
+    let (mut shared, taker) = Shared::<B>::new(new_core(alloc, 2000)?, 2, made, taken, history);
     let one = shared.seat();
     let other = shared.seat();
     let sessions = Mutex::new(shared);
@@ -58,7 +60,8 @@ fn two_make_together<R: Threads + Wait + Sync>(
     rt: &R,
     alloc: Global,
 ) -> Result<Option<u64>, Refusal> {
-    two_make::<Brand, R>(rt, alloc, Blank::new(2), Blank::new(1))
+    let history = BlankHistory::new();
+    two_make::<Brand, R>(rt, alloc, Blank::new(2), Blank::new(1), history)
 }
 
 #[test]

@@ -27,14 +27,22 @@ loop-line-preserved c =
     let left = lines_left c.loop-line.line-iterator in
     let after = lines_left c.next.new.self in
     let front : left ≡ line ∷ after = c.in-Some.ensures.steps in
-    let few = few_lines c.args.text.now before after line (rw c.len_of.ensures.len at c.len_of.ensures.short) (split ∙ ap (λ (l : List (List ℕ)). before ++ l) front) in
-    (before ++ line ∷ [], (split_on _ before left after line split front, (omega (arith, c.saturating_add-number.ensures, number, few, length-append before (line ∷ [])), one_more_line (record {
-      words = c.a_line_is_its_words.ensures.words;
-      eui_words = c.each_text_is_a_word.ensures.euis;
-      decimal_words = c.each_text_is_a_word.ensures.decimals;
-      euis = c.each_text_is_of_one_value.ensures.euis;
-      decimals = c.each_text_is_of_one_value.ensures.decimals;
-    }) before line c.loop-line.list c.add_line.new.self are c.in_default-add_line.ensures)))
+    let few = few_lines c.args.text.now before after line (rw c.len_of.ensures.len at c.len_of.ensures.short) (split ∙ ap (λ (l : List (List ℕ)). before ++ l) front) in (
+      before ++ line ∷ [],
+      (
+        split_on _ before left after line split front,
+        (
+          omega (arith, c.saturating_add-number.ensures, number, few, length-append before (line ∷ [])),
+          one_more_line (record {
+            words = c.a_line_is_its_words.ensures.words;
+            eui_words = c.each_text_is_a_word.ensures.euis;
+            decimal_words = c.each_text_is_a_word.ensures.decimals;
+            euis = c.each_text_is_of_one_value.ensures.euis;
+            decimals = c.each_text_is_of_one_value.ensures.decimals;
+          }) before line c.loop-line.list c.add_line.new.self are c.in_default-add_line.ensures,
+        ),
+      ),
+    )
 
 -- a line isn't taken
 pub returns-in-Err : goal.returns-in-Err

@@ -1,5 +1,5 @@
 use Rattle.lnsd_links.proofs.Lines.{first_of}
-use Rattle.lnsd_links.proofs.name_lines.first_line.Goals as goal
+use Rattle.lnsd_links.proofs.name_lines.line_and_rest.Goals as goal
 
 pub returns-in-Some : goal.returns-in-Some
 returns-in-Some c = let f = first_of c.args.text.now c.split_once.result c.split_once.ensures.cases in rw c.in-Some.is at f
