@@ -1,11 +1,11 @@
 // Serving a store in a file.
 ghost use Rattle.std.specs.Prelude.{◌≡◌, IfOk};
 
-use crate::causes::ListenCause;
-use crate::names_file::NamesFile;
 use crate::Fault;
+use crate::causes::ListenCause;
 use crate::control::{ControlPath, ENDED, bind_control, path_of, real_file, remove};
 use crate::descriptors::hold_descriptors;
+use crate::names_file::NamesFile;
 use crate::stores::{open_store, open_timed};
 use command_words::Mode;
 use lnsd_life::{
