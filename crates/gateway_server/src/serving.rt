@@ -89,7 +89,7 @@ pub(crate) fn run_server<'a, R, O: Write>(
 where
     R: Files<File = File> + Net<Listener = TcpListener, Stream = TcpStream>,
     R: Clock + Threads + Wait + Sync,
-    ensures { IfOk result (λ life. life.mode ≡ Mode.Run file.entry listen.entry links names) }
+    ensures { IfOk result (λ life. life.mode ≡ Mode.Run file.entry listen.entry links names.entry) }
 {
     let source = match names {
         Some(path) => Some(NamesFile { rt, alloc, path }),
