@@ -1,3 +1,4 @@
+mod Decided
 mod Ending
 mod Making
 mod Marking

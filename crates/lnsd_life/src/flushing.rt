@@ -5,12 +5,12 @@ ghost use Rattle.lnsd_links.specs.declared.names.Directory.{Directory};
 ghost use Rattle.flusher.specs.Calls.{NoneFailed};
 ghost use Rattle.flusher.specs.Released.{effects_of_all};
 ghost use Rattle.lnsd_life.specs.Marks.{AreLinksMarked, with_link};
-ghost use Rattle.lnsd_life.specs.Served.{IsLedOn, IsRefused};
+ghost use Rattle.lnsd_life.specs.Served.{CommitsInOrder, IsLedOn, IsRefused};
 ghost use Rattle.lnsd_links.specs.Routing.{AreMarked, IsRouted};
 ghost use Rattle.store.specs.State.{store_state};
 
 use disk::Disk;
-use flusher::{Drawn, Released, serve};
+use flusher::{Drawn, Released};
 use gateway_wire::Recipient;
 use lnsd_links::{APPLICATIONS, Directory, LifeStage, MOST_PLACES, route};
 use lnsd_operator::{DiskTimes, Sight};
@@ -29,6 +29,7 @@ const MOST_RINGS: usize = MOST_PLACES as usize + APPLICATIONS;
 /// is committed. Then announces to the senders that nothing more comes, and returns how many
 /// decisions were taken. A refusal closes the links, and what waits for them is lost. If it ends
 /// well, no call of the disk failed, and the store's number grew by the number of decisions taken.
+/// What is committed is what was decided: the decisions that come next in the history, in order.
 pub(crate) fn flush<B: Books, R: Wait, D: Disk>(
     rt: &R,
     alloc: Global,
@@ -39,8 +40,10 @@ pub(crate) fn flush<B: Books, R: Wait, D: Disk>(
     outlets: Vec<Outlet>,
 ) -> Result<u64, Refusal>
     ensures healthy { OnOk result (NoneFailed D.failures D.outlook store.old store.new) }
-    ensures committed { IfOk result (λ taken. (store_state D.state store.new).seq + taker
+    ensures committed { IfOk result (λ taken. (store_state D.state store.new).seq + taker.taken
         ≡ (store_state D.state store.old).seq + taken) }
+    ensures decided { CommitsInOrder (store_state D.state store.old) (store_state D.state store.new)
+        taker result }
     ensures refused { IfErr result (IsRefused D.Disk store.old store.new) }
     ensures lives { D.honest
         → IsLedOn (store_state D.state store.old) (store_state D.state store.new) }
@@ -66,7 +69,7 @@ pub(crate) fn flush<B: Books, R: Wait, D: Disk>(
             tell_times(rt, server, times);
             is_done(rt, server, &mut is_ticked)
         };
-        serve(rt, store, &mut feed, alloc, &mut out, &mut done)
+        feed.serve(store, alloc, &mut out, &mut done)
     };
     if served.is_err() {
         server.stop(rt);
@@ -75,7 +78,7 @@ pub(crate) fn flush<B: Books, R: Wait, D: Disk>(
     server.ring_senders();
     served?;
     durable.raise(store.seq());
-    Ok(feed.share())
+    Ok(feed.taker().share())
 }
 
 // The number of the last decision that the flusher has taken.

@@ -3,7 +3,7 @@ ghost use Rattle.std.specs.Prelude.{◌≡◌, ◌≢◌, ◌<◌, ◌≤◌, �
 ghost use Rattle.std.specs.Prelude.{ℕ, cond, false, is_some, map, slice_get, true, IfSome, IsErr};
 ghost use Rattle.std.specs.Prelude.{MatchResult, None, Some};
 ghost use Rattle.lnsd_links.specs.declared.door.Entrance.TheVariants.{Filled};
-ghost use Rattle.lnsd_links.specs.Names.{count};
+ghost use Rattle.lnsd_links.specs.Names.{number_of_names};
 ghost use Rattle.lnsd_links.specs.declared.allowance.CopyRate.TheVariants.{PerSecond};
 ghost use Rattle.lnsd_links.specs.declared.link.Link.{Link};
 ghost use Rattle.lw_types.specs.declared.refusal.Refusal.TheVariants.{OutOfMemory, OutOfStep};
@@ -101,7 +101,13 @@ pub fn serve_links<
         names: None,
         control: None,
     };
-    begin(&context, None::<&NoNames>, store, beginning, &mut NobodyTold)
+    begin(
+        &context,
+        None::<&NoNames>,
+        store,
+        beginning,
+        &mut NobodyTold,
+    )
 }
 
 /// Serves links that come in through a listener, as many at a time as there are places, until the
@@ -195,7 +201,7 @@ fn listed<S: NameSource>(
     places: PlaceCount,
 ) -> Result<(Policy, Option<NameList>), ServeFault>
     ensures names { IfOk result (λ life. is_some life.1 ≡ is_some names) }
-    ensures few { IfOk result (λ life. IfSome life.1 (λ list. count list < places)) }
+    ensures few { IfOk result (λ life. IfSome life.1 (λ list. number_of_names list < places)) }
     ensures refused { IfErr result IsOfBeginning }
 {
     let Some(source) = names else {
@@ -203,7 +209,6 @@ fn listed<S: NameSource>(
     };
     match read_names(source, places.get() as usize) {
         Ok(list) => Ok((anew(true), Some(list))),
-        Err(NameListFault::OutOfMemory) => Err(ServeFault::Refused(Refusal::OutOfMemory)),
         Err(fault) => Err(ServeFault::Names(fault)),
     }
 }

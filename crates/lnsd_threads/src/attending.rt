@@ -131,13 +131,13 @@ impl<'x, B: Books, R: Wait, G: Gate, C: LifeClock, S: NameSource> Attendant<'x, 
             .ok()?;
         let mut line = [0u8; LONGEST_ORDER];
         let mut len: usize = 0;
-        let mut quiet = 0;
+        let mut quiet: u32 = 0;
         for _ in 0..QUIET_READS + LONGEST_ORDER as u32 {
             match stream.read(line.get_mut(len..)?) {
                 Ok(0) => return None,
                 Ok(count) => len = len.saturating_add(count),
                 Err(error) if is_passing(error.kind()) => {
-                    quiet += 1;
+                    quiet = quiet.saturating_add(1);
                     if quiet >= QUIET_READS || self.control.is_crowded() {
                         return None;
                     }

@@ -5,4 +5,4 @@ use Rattle.lnsd_threads.proofs.reading.copies_in.Given as goal
 
 abbrev pub invariant-loop-message : goal.invariant-loop-message
 invariant-loop-message l =
-    (l.copies ≡ copies_in (take l.message-index l.messages)) × (l.copies ≤ l.message-index)
+    (l.copies ≡ copies_in (take l.message-index l.messages.items)) × (l.copies ≤ l.message-index)
