@@ -13,8 +13,8 @@ mod running;
 mod serving;
 mod stores;
 
-pub use command_words::{Edit, Mode, Usage, words};
 pub use causes::ListenCause;
+pub use command_words::{Edit, Mode, Usage, words};
 pub use commands::{Commands, ServerCommands};
 pub use fault::Fault;
 pub use lnsd_life::{

@@ -1,11 +1,11 @@
 // Serving a store in a file.
 ghost use Rattle.std.specs.Prelude.{◌≡◌, IfOk};
 
-use crate::causes::ListenCause;
-use crate::names_file::NamesFile;
 use crate::Fault;
+use crate::causes::ListenCause;
 use crate::control::{ControlPath, ENDED, bind_control, path_of, real_file, remove};
 use crate::descriptors::hold_descriptors;
+use crate::names_file::NamesFile;
 use crate::stores::{open_store, open_timed};
 use command_words::Mode;
 use lnsd_life::{
@@ -89,7 +89,7 @@ pub(crate) fn run_server<'a, R, O: Write>(
 where
     R: Files<File = File> + Net<Listener = TcpListener, Stream = TcpStream>,
     R: Clock + Threads + Wait + Sync,
-    ensures { IfOk result (λ life. life.mode ≡ Mode.Run file.entry listen.entry links names) }
+    ensures { IfOk result (λ life. life.mode ≡ Mode.Run file.entry listen.entry links names.entry) }
 {
     let source = match names {
         Some(path) => Some(NamesFile { rt, alloc, path }),
