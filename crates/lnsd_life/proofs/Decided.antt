@@ -1,5 +1,5 @@
 -- What was committed of what was decided.
-use Rattle.std.proofs.Common.{◌≡◌, ◌∙◌, ◌+◌, ◌++◌, ℕ, List, [], Result, Ok, Err, MatchResult, IfErr, IfOk, Unit, ap, append_assoc, arith, drop, length, refl, subst, sym}
+use Rattle.std.proofs.Common.{◌≡◌, ◌∙◌, ◌+◌, ◌++◌, ℕ, List, [], Result, Ok, Err, MatchResult, IfErr, IfOk, ap, append_assoc, arith, drop, length, refl, subst, sym}
 use Rattle.std.specs.Prelude.{IsErr}
 use Rattle.std.proofs.lemmas.Bool.{false≢true}
 use mathlib.Core.List.{IsPrefix}

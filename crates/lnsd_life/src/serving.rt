@@ -1,6 +1,6 @@
 // One life of a server.
 ghost use Rattle.std.specs.Prelude.{◌≡◌, ◌≢◌, ◌<◌, ◌≤◌, ◌+◌, length, sum, Err, IfErr, IfOk};
-ghost use Rattle.std.specs.Prelude.{ℕ, cond, false, is_some, map, slice_get, true, IfSome, IsErr};
+ghost use Rattle.std.specs.Prelude.{ℕ, cond, false, map, slice_get, true, IsErr, IsSomeAnd};
 ghost use Rattle.std.specs.Prelude.{MatchResult, None, Some};
 ghost use Rattle.lnsd_links.specs.declared.door.Entrance.TheVariants.{Filled};
 ghost use Rattle.lnsd_links.specs.Names.{number_of_names};
@@ -180,7 +180,7 @@ pub fn serve_on<
         clock,
         times: Some(times),
     };
-    let (policy, list) = match listed(names, count) {
+    let (policy, list) = match policy_and_names(names, count) {
         Ok(listed) => listed,
         Err(fault) => return failed(alloc, store, fault),
     };
@@ -195,18 +195,29 @@ pub fn serve_on<
 }
 
 // The policy of a life whose links come and go, and the list of the names that may greet, if there
-// is one. It has fewer names than this number of places.
-fn listed<S: NameSource>(
+// is one.
+fn policy_and_names<S: NameSource>(
     names: Option<&S>,
     places: PlaceCount,
 ) -> Result<(Policy, Option<NameList>), ServeFault>
-    ensures names { IfOk result (λ life. is_some life.1 ≡ is_some names) }
-    ensures few { IfOk result (λ life. IfSome life.1 (λ list. number_of_names list < places)) }
+    ensures { IfErr result IsOfBeginning }
+{
+    match names {
+        Some(source) => listed(source, places),
+        None => Ok((anew(false), None)),
+    }
+}
+
+// The policy of a life whose names are listed, and the list, which has fewer names than this number
+// of places.
+fn listed<S: NameSource>(
+    source: &S,
+    places: PlaceCount,
+) -> Result<(Policy, Option<NameList>), ServeFault>
+    ensures names { IfOk result
+        (λ life. IsSomeAnd life.1 (λ list. number_of_names list < places)) }
     ensures refused { IfErr result IsOfBeginning }
 {
-    let Some(source) = names else {
-        return Ok((anew(false), None));
-    };
     match read_names(source, places.get() as usize) {
         Ok(list) => Ok((anew(true), Some(list))),
         Err(fault) => Err(ServeFault::Names(fault)),

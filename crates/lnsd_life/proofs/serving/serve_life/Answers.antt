@@ -1,10 +1,11 @@
-use Rattle.std.proofs.Common.{◌≡◌, ◌+◌, IfErr, IfOk, OnOk, sym, subst}
+use Rattle.std.proofs.Common.{◌≡◌, ◌+◌, ℕ, IfErr, IfOk, OnOk, arith, length, sym, subst}
 use Rattle.flusher.specs.Calls.{NoneFailed}
 use Rattle.store.specs.State.{store_state}
 use Rattle.lnsd_life.proofs.Ending.{ended_well, told_committed, told_refused}
 use Rattle.session_core.specs.Taking.{TakerState}
 use Rattle.lnsd_life.proofs.Decided.{told_history}
 use Rattle.lnsd_life.specs.Served.{CommitsInOrder, IsLedOn, IsRefused}
+use Rattle.lnsd_life.specs.declared.report.LifeReport.{LifeReport}
 use Rattle.lnsd_life.proofs.serving.serve_life.Goals as goal
 
 pub returns-clause-served : goal.returns-clause-served
@@ -33,3 +34,9 @@ returns-clause-served g c =
       lives = λ honest.
           subst (λ s. IsLedOn (store_state g.D.Disk.state c.args.store) (store_state g.D.Disk.state s)) (sym ended.store) (ran.lives honest);
     }
+
+-- a share of each place, and one of the closer
+pub returns-clause-workers : goal.returns-clause-workers
+returns-clause-workers g c =
+    let all : c.len.result + 1 ≡ length c.args.places.links.items + 1 = omega (arith, c.len.ensures, c.args.places.links.ok.0) in
+    subst (λ (n : ℕ). IfOk c.served_life.result.result (λ (report : LifeReport). length report.shares.items ≡ n)) all c.served_life.ensures.workers

@@ -4,7 +4,7 @@ use Rattle.std.proofs.lemmas.Option.{none-some}
 use Rattle.lnsd_links.specs.declared.rings.OwnRing.{OwnRing}
 use Rattle.lnsd_links.specs.declared.rings.WaitingLines.{WaitingLines}
 use Rattle.lnsd_life.proofs.Numbered.{numbered_alike}
-use Rattle.lnsd_life.proofs.serving.Equipment.new.Goals.{then-places+in_ok-rings+in_ok-waiting_lines, else-places}
+use Rattle.lnsd_life.proofs.serving.Equipment.new.Goals.{then-policy+in_ok-rings+in_ok-waiting_lines, else-policy}
 use Rattle.lnsd_life.proofs.serving.Equipment.new.Goals as goal
 
 abbrev AreNumbered : List WaitingLines → Type 0
@@ -12,11 +12,11 @@ AreNumbered all = (n : ℕ) (waiting : WaitingLines) → slice_get all n ≡ Som
 
 pub returns-clause-lines : goal.returns-clause-lines
 returns-clause-lines g c =
-    elim c.if-places.branch [
-      | then-places+in_ok-rings+in_ok-waiting_lines w ↦
+    elim c.if-policy.branch [
+      | then-policy+in_ok-rings+in_ok-waiting_lines w ↦
           subst (λ (first : Option ℕ × Vec WaitingLines Global). AreNumbered first.1.items) (sym w.first_ring-is)
           (numbered_alike (λ (waiting : WaitingLines). waiting.application) (λ (own : OwnRing). own.application) w.in_ok-waiting_lines.field-0.items w.in_ok-rings.rings.items w.in_ok-waiting_lines.ensures.lines w.in_ok-rings.ensures.applications)
-      | else-places w ↦
+      | else-policy w ↦
           subst (λ (first : Option ℕ × Vec WaitingLines Global). AreNumbered first.1.items) (sym w.first_ring-is)
-          (λ n waiting got. absurd (none-some waiting (subst (λ (l : List WaitingLines). slice_get l n ≡ Some waiting) w.new-else-places.ensures.items got)))
+          (λ n waiting got. absurd (none-some waiting (subst (λ (l : List WaitingLines). slice_get l n ≡ Some waiting) w.new-else-policy.ensures.items got)))
     ]
