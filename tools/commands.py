@@ -137,6 +137,14 @@ def by_word(text, package):
     end_with(main)
 
 
+def linked(file, to):
+    """Links a file, or copies it if it can't be linked."""
+    try:
+        os.link(file, to)
+    except OSError:
+        shutil.copyfile(file, to)
+
+
 def number_in(file, pattern):
     """The number that a file of the system has, or None."""
     try:

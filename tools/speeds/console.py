@@ -1,14 +1,14 @@
 """Measures what the console costs the server, with 4,096 devices:
 
 - how long the list of the devices takes (`lnsd devices`), asked 50 times while nothing else
-  happens: until its first byte, before which the server makes it under the lock of its sessions, and
-  until its end;
+  happens: until its first byte, before which the server makes it under the lock of its sessions,
+  and until its end;
 - the same beside 4,000 uplinks a second, asked twice a second: how much longer than others those
   uplinks take whose window ends while a list is made;
 - by turns, 4,000 uplinks a second for 20 s without the console, and with it: its lookout asks for
-  the status and the devices and watches, and somebody has its overview and its list of devices open,
-  which are fetched every 2 s. Events of the broker don't come, since no bridge runs. It measures how
-  long uplinks take beyond their window, and the server's processor time of an uplink.
+  the status and the devices and watches, and somebody has its overview and its list of devices
+  open, which are fetched every 2 s. Events of the broker don't come, since no bridge runs. It
+  measures how long uplinks take beyond their window, and the server's processor time of an uplink.
 
 Each turn has a store of its own. It needs mosquitto, python3-aiohttp and python3-jinja2.
 
