@@ -94,6 +94,14 @@ def program(pytestconfig: pytest.Config) -> str:
     return program_of(pytestconfig, "program", f"bin/build lnsd makes {BUILT}")
 
 
+@pytest.fixture
+def proved(program: str) -> None:
+    """Skips a trial that an unproved program can't pass: bin/unproved makes it hundreds of times
+    slower, with memory of its own."""
+    if Path(program).parent.name == "unproved":
+        pytest.skip("only for the proved program: the unproved one is slower, with other memory")
+
+
 @pytest.fixture(scope="session")
 def simulator(pytestconfig: pytest.Config) -> str:
     """The path of the program lns-sim."""

@@ -17,6 +17,8 @@ FOLDERS = ("bin", "tools", "examples", "pilot", ".ci")
 BY_WORD = {"tools/speed": speeds.WORDS, "tools/gate-costs": costs.WORDS}
 # the words go to a program, which needn't be built, and which ends with 1 if nobody reads it
 BY_PROGRAM = "bin/lnsd"
+# what compiles the sources without proofs
+UNPROVED = ("bin/unproved", "bin/lnsd --unproved", "bin/lns-sim")
 WRONG = "--no-such-word"
 SECONDS = 120
 # how a command may end that nobody reads
@@ -107,6 +109,14 @@ def test_help_to_nobody(command: str) -> None:
         status, _, errors = ended(command, "--help", out)
     assert status in (*UNREAD, *([1] if command == BY_PROGRAM else []))
     assert len(errors) <= 1
+
+
+@pytest.mark.parametrize("command", UNPROVED)
+def test_how_long_it_compiles(command: str) -> None:
+    """The help of what compiles without proofs doesn't promise a program within a minute or two."""
+    status, out, errors = ended(command, "--help", subprocess.PIPE)
+    assert (status, errors) == (0, [])
+    assert re.search(r"\bin\ssome\sminutes\b", out.decode())
 
 
 @own_commands

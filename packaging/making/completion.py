@@ -19,7 +19,7 @@ _lnsd() {
     *) options="--help" ;;
     esac
     case $prev in
-    --above) _filedir && return ;;
+    --above | --names) _filedir && return ;;
     --listen) mapfile -t COMPREPLY < <(compgen -W "127.0.0.1:5600" -- "$cur") && return ;;
     --*) return ;;
     esac

@@ -27,7 +27,7 @@ LIBRARIES = {
 # What operators set in /etc/bozintar.
 CONFFILES = (
     *("lnsd.conf", "bridges.conf", "stores.conf", "console.conf", "door.conf"),
-    *("gateways", "adr-except"),
+    *("gateways", "names", "adr-except"),
 )
 # What Python programs read beside their modules.
 PAGES = ("pilot/console/pages", "pilot/console/static")

@@ -19,7 +19,7 @@ from .counting import Trials, needed, run
 NAMES = ("bridges", "console", "door", "lnsd", "stores")
 # The package may have at most this many bytes.
 MOST_BYTES = 6 << 20
-SETTINGS = ("adr-except", "gateways", *(f"{name}.conf" for name in NAMES))
+SETTINGS = ("adr-except", "gateways", "names", *(f"{name}.conf" for name in NAMES))
 CONFFILES = {f"/etc/bozintar/{name}" for name in SETTINGS}
 # The users that the package makes.
 USERS = ("lnsd", "bozintar", "bozintar-console", "bozintar-door")

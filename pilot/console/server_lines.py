@@ -146,6 +146,8 @@ def take_line(network: Network, line: str, of: Server | None = None) -> None:
         take_joined(network, server, rest.split(" "))
     elif kind in LINKS:
         take_link(network, server, kind, rest)
+    elif kind == "unlisted" and rest:
+        network.note("link", "", server.label(f"Link closed: {rest} isn't listed"))
     elif kind == "slow_sync" and NUMBER.fullmatch(rest):
         take_slow_sync(network, server, int(rest))
     elif kind == "dropped":

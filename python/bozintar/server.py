@@ -88,9 +88,13 @@ class Program:
         """Starts the server for this many links, which stay; its address."""
         return self.start("serve", links, port, **how)
 
-    def run_on(self, links: int = 96, port: int | None = None, **how: Any) -> tuple[str, int]:
-        """Starts the server for links that come and go; its address, once it listens there."""
-        address = self.start("run", links, port, **how)
+    def run_on(
+        self, links: int = 96, port: int | None = None, names: str = "", **how: Any
+    ) -> tuple[str, int]:
+        """Starts the server for links that come and go, with a file of names if there is one; its
+        address, once it listens there."""
+        more = ("--names", names) if names else ()
+        address = self.start("run", links, port, *more, **how)
         server = self.running()
         is_there = lambda: "\n" in server.now() or not server.is_running()
         await_that("the server listens", is_there, step=0.005)
@@ -99,11 +103,13 @@ class Program:
             raise Failed(f"the server printed {said!r}, and ended so: {self.ended()}")
         return address
 
-    def start(self, mode: str, links: int, port: int | None = None, **how: Any) -> tuple[str, int]:
-        """Starts the server in this mode; its address."""
+    def start(
+        self, mode: str, links: int, port: int | None = None, *more: str, **how: Any
+    ) -> tuple[str, int]:
+        """Starts the server in this mode, with more options; its address."""
         self.address = (HOST, port or free_port())
         words = [mode, self.store, "--listen", f"{HOST}:{self.address[1]}"]
-        words += ["--links", str(links)]
+        words += ["--links", str(links), *more]
         self.server = Process("server", self.folder, self.path, *words, apart=True)
         self.server.start(**how)
         return self.address

@@ -17,6 +17,7 @@ SHOWN = [
     ("faulted application 3", "/server", "Application 3: link closed: the server got a message"),
     ("faulted", "/server", "A client: link closed: the server got a message"),
     ("silent", "/server", "Link closed: no greeting in ten seconds"),
+    (f"unlisted gateway {OTHER}", "/server", f"Link closed: gateway {OTHER} isn't listed"),
     (f"dropped gateway {OTHER} 5", "/server", f"Not sent to gateway {OTHER}: 5"),
     ("slow_sync 350", "/server", "A sync of the disk took 350 ms"),
     ("slow_sync 350", "/", "The disk is slow A sync took 350 ms in the last hour"),

@@ -4,7 +4,6 @@ import shutil
 from collections.abc import Callable, Iterator, Sequence
 from contextlib import ExitStack
 from functools import partial
-from pathlib import Path
 
 import preloads
 import pytest
@@ -15,14 +14,6 @@ from .pairs import formatted
 
 NewServer = Callable[..., Program]
 Environment = Callable[..., dict[str, str]]
-
-
-@pytest.fixture
-def proved(program: str) -> None:
-    """Skips a trial that an unproved program can't pass: bin/unproved makes it hundreds of times
-    slower, with memory of its own."""
-    if Path(program).parent.name == "unproved":
-        pytest.skip("only for the proved program: the unproved one is slower, with other memory")
 
 
 @pytest.fixture

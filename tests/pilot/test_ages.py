@@ -156,6 +156,7 @@ def test_what_the_server_makes_of_it(pilot: Pilot) -> None:
             assert application.hears() == ANSWER
         status = program.status()
     assert [status[name] for name in ("faulted", "dropped", "made")] == ["0", "0", "0"]
+    await_that("its end is reported", lambda: "ended application 3" in watch.now())
     program.stop()
     watch.ended()
     lines = watch.now().splitlines()

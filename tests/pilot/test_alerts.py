@@ -56,7 +56,8 @@ WELL = {
         for name in ("lnsd", "gateways-udp", "router", "readings-3", "adr-3", "door")
     },
     **{
-        f"lnsd_{name}_total": steady(7) for name in ("dropped", "taken_over_links", "faulted_links")
+        f"lnsd_{name}_total": steady(7)
+        for name in ("dropped", "taken_over_links", "faulted_links", "unlisted_links", "slowed")
     },
     "lnsd_gateways": steady(3),
     "lnsd_applications": steady(1),
@@ -117,6 +118,8 @@ WRONG: tuple = (
     ("LnsdDrops", {"lnsd_dropped_total": growing(1)}),
     ("LnsdNameIsThereTwice", {"lnsd_taken_over_links_total": growing(2)}),
     ("LnsdLinkFaults", {"lnsd_faulted_links_total": growing(1)}),
+    ("LnsdSlowsALink", {"lnsd_slowed_total": growing(100)}),
+    ("LnsdNameIsNotListed", {"lnsd_unlisted_links_total": growing(2)}),
     ("GatewayMissing", {"lnsd_gateways": steady(2), LAST_COPY % 3: NONE}),
     ("NamedGatewayMissing", {OF_GATEWAY % "linked": steady(0)}),
     ("GatewayDoesntPull", {OF_GATEWAY % "last_pull_seconds": steady(60)}),

@@ -8,13 +8,16 @@ import time
 from dataclasses import dataclass, field
 
 import pytest
+from bozintar import load, store
 from bozintar.buckets import Bucket
+from bozintar.devices import Device
 from bozintar.forwarders import Air, Forwarder
-from bozintar.processes import HOST, Process
+from bozintar.links import Application, Ended, Silent
+from bozintar.processes import HOST, Process, await_that
 
 from .field import GATEWAYS, counts_in
 from .networks import End, Network
-from .parts import Parts
+from .parts import Parts, Pilot
 from .played import gateways, rxpk
 from .stations import Station
 
@@ -39,6 +42,11 @@ NAMED = [word for eui in GATEWAYS[:2] for word in ("--gateway", eui)]
 # gateway hears meanwhile: frames, and the seconds between two of them; and how often it is tried
 BYTES_A_SECOND, FRAMES_EACH = 2_500_000, 300
 OTHERS, PAUSE, TRIES = 200, 0.01, 8
+# in a flood beside the server itself: meters of the other gateway, and uplinks of each; how many of
+# them come out at least, and how many times longer the slowest hundredth may take
+METERS, UPLINKS, OUT, LONGER = 50, 8, 0.99, 2
+# how long the last uplinks are waited for, in seconds
+REST = 2.0
 # for how long the network gathers a frame's copies, in seconds: if the bridge takes no longer, an
 # uplink takes at most twice as long as without a flood
 WINDOW = 0.2
@@ -201,6 +209,74 @@ def test_flood_beside_another(parts: Parts, network: Network) -> None:
     while len(found) < TRIES and max(found, default=0) < 0.99 * OTHERS:
         found.append(beside_a_flood(parts, network, f"bridge-{len(found)}"))
     assert max(found) >= 0.99 * OTHERS, f"{found} of {OTHERS} frames came out in time"
+
+
+class Lines(threading.Thread):
+    """Reads an application's lines until its link ends, and notes when each uplink comes: its
+    device and its counter."""
+
+    def __init__(self, application: Application) -> None:
+        super().__init__()
+        self.application = application
+        self.moments: dict[tuple[str, int], float] = {}
+        self.start()
+
+    def run(self) -> None:
+        """The thread."""
+        try:
+            while True:
+                words = self.application.hears(60).split(" ")
+                self.moments[words[1], int(words[3])] = time.monotonic()
+        except (Ended, Silent):
+            pass
+
+
+def waits_of(gateway: Forwarder, meters: list[Device], lines: Lines) -> list[float]:
+    """The gateway hears uplinks of each meter; how long each that comes out takes, the fastest
+    first."""
+    sent: dict[tuple[str, int], float] = {}
+    for _ in range(UPLINKS):
+        for meter in meters:
+            sent[meter.dev_eui, meter.next_up] = time.monotonic()
+            gateway.hears(meter.uplink(7, b"\x01"))
+            gateway.look()
+            time.sleep(PAUSE)
+    last = time.monotonic() + REST
+    while not lines.moments.keys() >= sent.keys() and time.monotonic() < last:
+        time.sleep(0.02)
+    return sorted(lines.moments[key] - at for key, at in sent.items() if key in lines.moments)
+
+
+def slowest(waits: list[float]) -> float:
+    """The time that 99 % of the uplinks don't exceed."""
+    return waits[int(len(waits) * 0.99) - 1]
+
+
+@pytest.mark.timed
+@pytest.mark.usefixtures("proved")
+def test_flood_beside_the_server(pilot: Pilot) -> None:
+    """The same with the server itself: 99 % of another gateway's uplinks come out, and the time
+    that 99 % of them don't exceed at most doubles."""
+    pilot.program.stop()
+    store.put(pilot.program.store, [load.record(number, 1) for number in range(METERS)])
+    pilot.program.run_on(96, port=pilot.address[1])
+    words = ("--network", pilot.network, "--udp", f"{HOST}:{pilot.udp_port}", *NAMED)
+    bridge = pilot.own("gateways-udp", *words).start("listens on")
+    second, meters = Forwarder(GATEWAYS[1], pilot.udp_port), list(map(load.device, range(METERS)))
+    second.look()
+    await_that("it is linked", lambda: f"{GATEWAYS[1]}: linked to" in bridge.said())
+    lines = Lines(Application(pilot.address, 0))
+    quiet = waits_of(second, meters, lines)
+    with Flooder(pilot.udp_port):
+        loud = waits_of(second, meters, lines)
+    assert len(quiet) == METERS * UPLINKS
+    assert len(loud) >= OUT * METERS * UPLINKS, f"{len(loud)} uplinks came out"
+    assert slowest(loud) <= LONGER * slowest(quiet)
+    assert "sends more than" in bridge.said(), "a flood"
+    second.close()
+    pilot.program.stop()
+    lines.join()
+    lines.application.close()
 
 
 @pytest.mark.timed

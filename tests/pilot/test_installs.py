@@ -130,7 +130,9 @@ def test_what_is_packed(packed: Clone) -> None:
     due = {name.relative_to(units) for name in packed.own if name.is_relative_to(units)}
     assert packed.came(UNITS_TO) == due
     confs = {f"{name}.conf" for name in ("lnsd", "bridges", "stores", "console", "door")}
-    assert packed.came("etc/bozintar") == set(map(Path, confs | {"gateways", "adr-except"}))
+    assert packed.came("etc/bozintar") == set(
+        map(Path, confs | {"gateways", "names", "adr-except"})
+    )
     assert {str(name) for name in packed.came(DOC)} >= {"README.Debian", "examples/mosquitto.acl"}
 
 

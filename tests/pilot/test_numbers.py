@@ -31,6 +31,7 @@ odd a"b\\c
 LINES = [
     *("gateways", "applications", "made", "dropped", "faulted", "taken_over", "silent", "devices"),
     *("slots", "waiting", "longest_sync_us", f"last_copy_{GATEWAYS[0]}"),
+    *("unlisted", "slowed"),
 ]
 DUE = {
     "lnsd_up": 1.0,

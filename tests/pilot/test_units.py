@@ -8,7 +8,9 @@ import time
 from pathlib import Path
 
 import pytest
+from bozintar.links import Gateway
 from bozintar.processes import HOST, await_that, command, free_port
+from bozintar.server import Program
 
 from .doors import Authority, Doors, gateway
 from .field import GATEWAYS
@@ -116,6 +118,30 @@ def test_list_is_read_again(pilot: Pilot) -> None:
     pilot.file("list/gateways", lines[1])
     run(shell(name, "ExecReload", *places), MAINPID=str(bridge.pid))
     await_that("the list is read again", lambda: bridge.has_said("2 gateways"))
+
+
+def test_names_are_read_again(program: str, folder: Path) -> None:
+    """The server's unit copies the list of names, if there is one, and a reload has the server read
+    it again. Without NAMES in the settings nothing is listed."""
+    name, listed, copies = "lnsd.service", folder / "names", folder / "copies"
+    places = (("/etc/bozintar/names", str(listed)), ("%t/lnsd-names", str(copies)))
+    assert line_of(name, "ExecStart").endswith(" --listen ${LISTEN} $NAMES")
+    assert "NAMES=" in line_of(name, "Environment").split()
+    copied = shell(name, r"ExecStartPre(?==\+)", *places, ("-g lnsd ", ""))
+    run(copied)
+    assert not copies.exists()
+    listed.write_text(f"gateway {GATEWAYS[0]}\n", encoding="utf-8")
+    run(copied)
+    with Program(program) as server:
+        assert server.format()[0] == 0
+        address = server.run_on(names=str(copies / "names"))
+        listed.write_text(f"gateway {GATEWAYS[1]}\n", encoding="utf-8")
+        more = (("-g lnsd ", ""), ("/usr/bin/lnsd", program), ("%S/lnsd/store", server.store))
+        run(shell(name, "ExecReload", *places, *more))
+        with Gateway(address, GATEWAYS[1]):
+            await_that("the gateway is listed", lambda: server.status()["gateways"] == "1")
+        assert server.status()["unlisted"] == "0"
+        assert server.stop()[0] == 0
 
 
 def test_door_reads_its_files_again(doors: Doors) -> None:

@@ -94,7 +94,7 @@ hear_copy:
     :: else
     fi;
 #endif
-    /* lnsd_threads/reading: Worker::hear_copy
+    /* lnsd_threads/reading: Worker::handle_copy
      * lnsd_threads/observing: LiveServer::handle
      * session_core/shared: Shared::handle
      * session_core/events: Core::handle
@@ -546,7 +546,8 @@ idle:
 end_idle:
     is_sending[place];
     /* lnsd_links/writing: HostSender::send_lines
-     * lnsd_links/writing: HostSender::wait_for */
+     * lnsd_links/writing: HostSender::wait_for
+     * lnsd_links/rings: WaitingLines::take */
 wait_for:
     atomic { if :: has_lines -> has_lines = false; goto look :: else fi }
     atomic { if :: over[place] -> goto gone :: else fi }
@@ -556,7 +557,7 @@ end_wait:
 look:
     /* lnsd_links/writing: HostSender::send
      * lnsd_links/writing: Sender::run
-     * lnsd_links/writing: Sender::is_given_up */
+     * lnsd_links/writing: Sender::may_write */
     atomic { if :: taken[place] -> goto give_back :: else fi }
     /* lnsd_links/writing: Sender::is_last */
     atomic { is_last = over[place] || is_finished }
@@ -568,7 +569,8 @@ look:
 end_park:
     atomic { bell[place] -> bell[place] = false; goto look }
 give_back:
-    /* lnsd_links/writing: HostSender::send_lines */
+    /* lnsd_links/writing: HostSender::send_lines
+     * lnsd_links/rings: WaitingLines::give_back */
 #ifdef FAULT_LINES_AFTER_BELLS
     bell[0] = true;
     bell[1] = true;

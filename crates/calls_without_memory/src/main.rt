@@ -1,8 +1,8 @@
-//! `calls_without_memory` makes each public call that no script of `lns-sim` makes, or makes at its largest
-//! size, and prints for each whether its answer was right. A call that is refused because memory
-//! ran out is made again, and has to find everything as it was before. If there is no memory for
-//! the inputs of the calls, `refused 30` is the only line. `tools/sim-memory` runs it with each of
-//! its requests for memory refused in turn. The status is 1 if a write failed.
+//! `calls_without_memory` makes each public call that no script of `lns-sim` makes, or makes at its
+//! largest size, and prints for each whether its answer was right. A call that is refused because
+//! memory ran out is made again, and has to find everything as it was before. If there is no memory
+//! for the inputs of the calls, `refused 30` is the only line. `tools/sim-memory` runs it with each
+//! of its requests for memory refused in turn. The status is 1 if a write failed.
 #![tactic(auto)]
 
 mod attempt;

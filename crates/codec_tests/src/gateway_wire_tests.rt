@@ -24,7 +24,7 @@ fn payload(alloc: Global, (hex, count): (&str, usize)) -> Option<Payload> {
 fn downlink(
     alloc: Global,
     data_rate: u8,
-    windows: ReceiveWindows,
+    receive_windows: ReceiveWindows,
     (hex, count): (&str, usize),
 ) -> Option<Effect> {
     let (session, delay) = (name(1)?, RxDelay::new(1)?);
@@ -40,7 +40,7 @@ fn downlink(
             frequency: 868_100_000,
             data_rate,
             delay,
-            windows,
+            receive_windows,
             frame,
         },
     })
@@ -84,8 +84,8 @@ enum Leaving {
 // An effect whose bytes end with this number of A5.
 fn effect(alloc: Global, leaving: &Leaving, count: usize) -> Option<Effect> {
     match leaving {
-        Leaving::Down(data_rate, windows, hex) => {
-            downlink(alloc, *data_rate, *windows, (hex, count))
+        Leaving::Down(data_rate, receive_windows, hex) => {
+            downlink(alloc, *data_rate, *receive_windows, (hex, count))
         }
         Leaving::Accept => Some(Effect::Accept {
             session: name(1)?,

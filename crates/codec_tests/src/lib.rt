@@ -1,6 +1,6 @@
 //! Tests of the public calls of what is written as bytes: records, their changes and the store's
-//! layout; devices; the messages and lines of links. This crate stands above those that it tests, so
-//! that each of these is proved once.
+//! layout; devices; the messages and lines of links. This crate stands above those that it tests,
+//! so that each of these is proved once.
 #![tactic(auto)]
 
 #[cfg(test)]

@@ -84,7 +84,7 @@ pub fn empty_downlink(alloc: Global) -> Option<Downlink> {
         frequency: 868_500_000,
         data_rate: 2,
         delay,
-        windows: ReceiveWindows::Rx1OrRx2,
+        receive_windows: ReceiveWindows::Rx1OrRx2,
         frame: PhyPayload::empty(alloc),
     })
 }

@@ -127,10 +127,12 @@ no_edit word rows is_key never m fits h = go m fits h.0 h.2
     go (mode.Format file net_id slots) fits is h = true≢false (sym is_key ∙ ap (λ w. is_edit_key (key w)) is)
     go (mode.List file) fits is h = true≢false (sym is_key ∙ ap (λ w. is_edit_key (key w)) is)
     go (mode.Serve file listen links) fits is h = true≢false (sym is_key ∙ ap (λ w. is_edit_key (key w)) is)
-    go (mode.Run file listen links) fits is h = true≢false (sym is_key ∙ ap (λ w. is_edit_key (key w)) is)
+    go (mode.Run file listen links names) fits is h = true≢false (sym is_key ∙ ap (λ w. is_edit_key (key w)) is)
     go (mode.Stop file) fits is h = true≢false (sym is_key ∙ ap (λ w. is_edit_key (key w)) is)
     go (mode.Devices file) fits is h = true≢false (sym is_key ∙ ap (λ w. is_edit_key (key w)) is)
     go (mode.Watch file) fits is h = true≢false (sym is_key ∙ ap (λ w. is_edit_key (key w)) is)
+    go (mode.Reload file) fits is h = true≢false (sym is_key ∙ ap (λ w. is_edit_key (key w)) is)
+    go (mode.Copy file new_file) fits is h = true≢false (sym is_key ∙ ap (λ w. is_edit_key (key w)) is)
     go (mode.Status file wait) fits is h = true≢false (sym is_key ∙ ap (λ w. is_edit_key (key w)) is)
     go (mode.Restore file new_file grants above) fits is h = true≢false (sym is_key ∙ ap (λ w. is_edit_key (key w)) is)
 
@@ -142,10 +144,12 @@ no_format rows never m fits h = go m fits h.0 h.2
     go (mode.Format file net_id slots) fits is h = never net_id slots fits.0 fits.1 h
     go (mode.List file) fits is h = apart (codes "format") (codes "list") (λ b. omega (arith, b)) is
     go (mode.Serve file listen links) fits is h = apart (codes "format") (codes "serve") (λ b. omega (arith, b)) is
-    go (mode.Run file listen links) fits is h = apart (codes "format") (codes "run") (λ b. omega (arith, b)) is
+    go (mode.Run file listen links names) fits is h = apart (codes "format") (codes "run") (λ b. omega (arith, b)) is
     go (mode.Stop file) fits is h = apart (codes "format") (codes "stop") (λ b. omega (arith, b)) is
     go (mode.Devices file) fits is h = apart (codes "format") (codes "devices") (λ b. omega (arith, b)) is
     go (mode.Watch file) fits is h = apart (codes "format") (codes "watch") (λ b. omega (arith, b)) is
+    go (mode.Reload file) fits is h = apart (codes "format") (codes "reload") (λ b. omega (arith, b)) is
+    go (mode.Copy file new_file) fits is h = apart (codes "format") (codes "copy") (λ b. omega (arith, b)) is
     go (mode.Status file wait) fits is h = apart (codes "format") (codes "status") (λ b. omega (arith, b)) is
     go (mode.Restore file new_file grants above) fits is h = apart (codes "format") (codes "restore") (λ b. omega (arith, b)) is
     go (mode.Edit e) fits is h = not_edit (codes "format") e refl is
@@ -158,10 +162,12 @@ no_serve rows never m fits h = go m fits h.0 h.2
     go (mode.Serve file listen links) fits is h = never listen.now links fits.0 fits.1 h
     go (mode.Format file net_id slots) fits is h = apart (codes "serve") (codes "format") (λ b. omega (arith, b)) is
     go (mode.List file) fits is h = apart (codes "serve") (codes "list") (λ b. omega (arith, b)) is
-    go (mode.Run file listen links) fits is h = apart (codes "serve") (codes "run") (λ b. omega (arith, b)) is
+    go (mode.Run file listen links names) fits is h = apart (codes "serve") (codes "run") (λ b. omega (arith, b)) is
     go (mode.Stop file) fits is h = apart (codes "serve") (codes "stop") (λ b. omega (arith, b)) is
     go (mode.Devices file) fits is h = apart (codes "serve") (codes "devices") (λ b. omega (arith, b)) is
     go (mode.Watch file) fits is h = apart (codes "serve") (codes "watch") (λ b. omega (arith, b)) is
+    go (mode.Reload file) fits is h = apart (codes "serve") (codes "reload") (λ b. omega (arith, b)) is
+    go (mode.Copy file new_file) fits is h = apart (codes "serve") (codes "copy") (λ b. omega (arith, b)) is
     go (mode.Status file wait) fits is h = apart (codes "serve") (codes "status") (λ b. omega (arith, b)) is
     go (mode.Restore file new_file grants above) fits is h = apart (codes "serve") (codes "restore") (λ b. omega (arith, b)) is
     go (mode.Edit e) fits is h = not_edit (codes "serve") e refl is
@@ -171,13 +177,15 @@ pub no_run : (rows : List Row) → ((t : Text) (s : ℕ) → 1 ≤ s → s ≤ 9
 no_run rows never m fits h = go m fits h.0 h.2
   where
     go : (m : Mode) → IsInRange m → codes "run" ≡ command_word m → HasOptions rows m → ⊥
-    go (mode.Run file listen links) fits is h = never listen.now links fits.0 fits.1 h
+    go (mode.Run file listen links names) fits is h = never listen.now links fits.0 fits.1 h.0
     go (mode.Format file net_id slots) fits is h = apart (codes "run") (codes "format") (λ b. omega (arith, b)) is
     go (mode.List file) fits is h = apart (codes "run") (codes "list") (λ b. omega (arith, b)) is
     go (mode.Serve file listen links) fits is h = apart (codes "run") (codes "serve") (λ b. omega (arith, b)) is
     go (mode.Stop file) fits is h = apart (codes "run") (codes "stop") (λ b. omega (arith, b)) is
     go (mode.Devices file) fits is h = apart (codes "run") (codes "devices") (λ b. omega (arith, b)) is
     go (mode.Watch file) fits is h = apart (codes "run") (codes "watch") (λ b. omega (arith, b)) is
+    go (mode.Reload file) fits is h = apart (codes "run") (codes "reload") (λ b. omega (arith, b)) is
+    go (mode.Copy file new_file) fits is h = apart (codes "run") (codes "copy") (λ b. omega (arith, b)) is
     go (mode.Status file wait) fits is h = apart (codes "run") (codes "status") (λ b. omega (arith, b)) is
     go (mode.Restore file new_file grants above) fits is h = apart (codes "run") (codes "restore") (λ b. omega (arith, b)) is
     go (mode.Edit e) fits is h = not_edit (codes "run") e refl is
@@ -191,10 +199,12 @@ no_status rows never m fits h = go m fits h.0 h.2
     go (mode.Format file net_id slots) fits is h = apart (codes "status") (codes "format") (λ b. omega (arith, b)) is
     go (mode.List file) fits is h = apart (codes "status") (codes "list") (λ b. omega (arith, b)) is
     go (mode.Serve file listen links) fits is h = apart (codes "status") (codes "serve") (λ b. omega (arith, b)) is
-    go (mode.Run file listen links) fits is h = apart (codes "status") (codes "run") (λ b. omega (arith, b)) is
+    go (mode.Run file listen links names) fits is h = apart (codes "status") (codes "run") (λ b. omega (arith, b)) is
     go (mode.Stop file) fits is h = apart (codes "status") (codes "stop") (λ b. omega (arith, b)) is
     go (mode.Devices file) fits is h = apart (codes "status") (codes "devices") (λ b. omega (arith, b)) is
     go (mode.Watch file) fits is h = apart (codes "status") (codes "watch") (λ b. omega (arith, b)) is
+    go (mode.Reload file) fits is h = apart (codes "status") (codes "reload") (λ b. omega (arith, b)) is
+    go (mode.Copy file new_file) fits is h = apart (codes "status") (codes "copy") (λ b. omega (arith, b)) is
     go (mode.Restore file new_file grants above) fits is h = apart (codes "status") (codes "restore") (λ b. omega (arith, b)) is
     go (mode.Edit e) fits is h = not_edit (codes "status") e refl is
 
@@ -207,12 +217,32 @@ no_restore rows never m fits h = go m fits h.0 h.2
     go (mode.Format file net_id slots) fits is h = apart (codes "restore") (codes "format") (λ b. omega (arith, b)) is
     go (mode.List file) fits is h = apart (codes "restore") (codes "list") (λ b. omega (arith, b)) is
     go (mode.Serve file listen links) fits is h = apart (codes "restore") (codes "serve") (λ b. omega (arith, b)) is
-    go (mode.Run file listen links) fits is h = apart (codes "restore") (codes "run") (λ b. omega (arith, b)) is
+    go (mode.Run file listen links names) fits is h = apart (codes "restore") (codes "run") (λ b. omega (arith, b)) is
     go (mode.Stop file) fits is h = apart (codes "restore") (codes "stop") (λ b. omega (arith, b)) is
     go (mode.Devices file) fits is h = apart (codes "restore") (codes "devices") (λ b. omega (arith, b)) is
     go (mode.Watch file) fits is h = apart (codes "restore") (codes "watch") (λ b. omega (arith, b)) is
+    go (mode.Reload file) fits is h = apart (codes "restore") (codes "reload") (λ b. omega (arith, b)) is
+    go (mode.Copy file new_file) fits is h = apart (codes "restore") (codes "copy") (λ b. omega (arith, b)) is
     go (mode.Status file wait) fits is h = apart (codes "restore") (codes "status") (λ b. omega (arith, b)) is
     go (mode.Edit e) fits is h = not_edit (codes "restore") e refl is
+
+-- a `copy` without a new file
+pub no_copy : (rows : List Row) → ((t : Text) → first_of (codes "new") rows ≡ Some t → ⊥) → AsksForNone (codes "copy") rows
+no_copy rows never m fits h = go m fits h.0 h.2
+  where
+    go : (m : Mode) → IsInRange m → codes "copy" ≡ command_word m → HasOptions rows m → ⊥
+    go (mode.Copy file new_file) fits is h = never new_file.now h
+    go (mode.Format file net_id slots) fits is h = apart (codes "copy") (codes "format") (λ b. omega (arith, b)) is
+    go (mode.List file) fits is h = apart (codes "copy") (codes "list") (λ b. omega (arith, b)) is
+    go (mode.Serve file listen links) fits is h = apart (codes "copy") (codes "serve") (λ b. omega (arith, b)) is
+    go (mode.Run file listen links names) fits is h = apart (codes "copy") (codes "run") (λ b. omega (arith, b)) is
+    go (mode.Stop file) fits is h = apart (codes "copy") (codes "stop") (λ b. omega (arith, b)) is
+    go (mode.Devices file) fits is h = apart (codes "copy") (codes "devices") (λ b. omega (arith, b)) is
+    go (mode.Watch file) fits is h = apart (codes "copy") (codes "watch") (λ b. omega (arith, b)) is
+    go (mode.Reload file) fits is h = apart (codes "copy") (codes "reload") (λ b. omega (arith, b)) is
+    go (mode.Status file wait) fits is h = apart (codes "copy") (codes "status") (λ b. omega (arith, b)) is
+    go (mode.Restore file new_file grants above) fits is h = apart (codes "copy") (codes "restore") (λ b. omega (arith, b)) is
+    go (mode.Edit e) fits is h = not_edit (codes "copy") e refl is
 
 -- an `import` with a half of a new store
 pub no_import : (rows : List Row) → ((t : Text) → first_of (codes "csv") rows ≡ Some t → HasNoNewStore rows → ⊥) → ((t : Text) (n s : ℕ) → n < 64 → AreSlots s → first_of (codes "csv") rows ≡ Some t → HasNewStore rows n s → ⊥) → AsksForNone (codes "import") rows

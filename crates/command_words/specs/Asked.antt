@@ -94,10 +94,12 @@ command_word (mode.Edit e) = edit_word e
 command_word (mode.Format file net_id slots) = codes "format"
 command_word (mode.List file) = codes "list"
 command_word (mode.Serve file listen links) = codes "serve"
-command_word (mode.Run file listen links) = codes "run"
+command_word (mode.Run file listen links names) = codes "run"
 command_word (mode.Stop file) = codes "stop"
 command_word (mode.Devices file) = codes "devices"
 command_word (mode.Watch file) = codes "watch"
+command_word (mode.Reload file) = codes "reload"
+command_word (mode.Copy file new_file) = codes "copy"
 command_word (mode.Status file wait) = codes "status"
 command_word (mode.Restore file new_file grants above) = codes "restore"
 
@@ -107,10 +109,12 @@ mode_file (mode.Edit e) = edit_file e
 mode_file (mode.Format file net_id slots) = file.now
 mode_file (mode.List file) = file.now
 mode_file (mode.Serve file listen links) = file.now
-mode_file (mode.Run file listen links) = file.now
+mode_file (mode.Run file listen links names) = file.now
 mode_file (mode.Stop file) = file.now
 mode_file (mode.Devices file) = file.now
 mode_file (mode.Watch file) = file.now
+mode_file (mode.Reload file) = file.now
+mode_file (mode.Copy file new_file) = file.now
 mode_file (mode.Status file wait) = file.now
 mode_file (mode.Restore file new_file grants above) = file.now
 
@@ -120,10 +124,13 @@ HasOptions rows (mode.Edit e) = HasEditOptions rows e
 HasOptions rows (mode.Format file net_id slots) = HasNewStore rows net_id slots
 HasOptions rows (mode.List file) = Unit
 HasOptions rows (mode.Serve file listen links) = HasLinkOptions rows listen.now links
-HasOptions rows (mode.Run file listen links) = HasLinkOptions rows listen.now links
+HasOptions rows (mode.Run file listen links names) = HasLinkOptions rows listen.now links
+    × (first_of (codes "names") rows ≡ option_map (λ file. file.now) names)
 HasOptions rows (mode.Stop file) = Unit
 HasOptions rows (mode.Devices file) = Unit
 HasOptions rows (mode.Watch file) = Unit
+HasOptions rows (mode.Reload file) = Unit
+HasOptions rows (mode.Copy file new_file) = first_of (codes "new") rows ≡ Some new_file.now
 HasOptions rows (mode.Status file wait) = IsNumberOf (codes "wait") rows wait
 HasOptions rows (mode.Restore file new_file grants above) =
     (first_of (codes "new") rows ≡ Some new_file.now) × IsNumberOf (codes "grants") rows grants
@@ -156,10 +163,12 @@ IsInRange (mode.Edit e) = IsEditInRange e
 IsInRange (mode.Format file net_id slots) = (net_id < 64) × AreSlots slots
 IsInRange (mode.List file) = Unit
 IsInRange (mode.Serve file listen links) = (1 ≤ links) × (links ≤ 80)
-IsInRange (mode.Run file listen links) = (1 ≤ links) × (links ≤ 96)
+IsInRange (mode.Run file listen links names) = (1 ≤ links) × (links ≤ 96)
 IsInRange (mode.Stop file) = Unit
 IsInRange (mode.Devices file) = Unit
 IsInRange (mode.Watch file) = Unit
+IsInRange (mode.Reload file) = Unit
+IsInRange (mode.Copy file new_file) = Unit
 IsInRange (mode.Status file wait) = wait ≤ 3600
 IsInRange (mode.Restore file new_file grants above) = (1 ≤ grants) × (grants ≤ 65536)
 

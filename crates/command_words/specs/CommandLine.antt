@@ -54,8 +54,10 @@ serve_line = with_rule (with_rule (with_rule (new_app (codes "serve")) (word (co
     (option (codes "listen"))) (count_option (codes "links") (pos 80))
 
 abbrev pub run_line : App
-run_line = with_rule (with_rule (with_rule (new_app (codes "run")) (word (codes "file")))
-    (option (codes "listen"))) (or_else (count_option (codes "links") (pos 96)) (codes "96"))
+run_line = with_rule (with_rule (with_rule (with_rule (new_app (codes "run"))
+    (word (codes "file"))) (option (codes "listen")))
+    (or_else (count_option (codes "links") (pos 96)) (codes "96")))
+    (left_out (option (codes "names")))
 
 abbrev pub stop_line : App
 stop_line = with_rule (new_app (codes "stop")) (word (codes "file"))
@@ -65,6 +67,13 @@ devices_line = with_rule (new_app (codes "devices")) (word (codes "file"))
 
 abbrev pub watch_line : App
 watch_line = with_rule (new_app (codes "watch")) (word (codes "file"))
+
+abbrev pub reload_line : App
+reload_line = with_rule (new_app (codes "reload")) (word (codes "file"))
+
+abbrev pub copy_line : App
+copy_line = with_rule (with_rule (new_app (codes "copy")) (word (codes "file")))
+    (word (codes "new"))
 
 abbrev pub status_line : App
 status_line = with_rule (with_rule (new_app (codes "status")) (word (codes "file")))
@@ -112,9 +121,10 @@ top_line =
 -- the commands for a store that is served, or will be
 abbrev pub serving_line : App
 serving_line = with_subcommand (with_subcommand (with_subcommand (with_subcommand (with_subcommand
-    (with_subcommand (with_subcommand (with_subcommand (with_subcommand top_line format_line.top)
-    list_line.top) serve_line.top) run_line.top) stop_line.top) status_line.top) restore_line.top)
-    devices_line.top) watch_line.top
+    (with_subcommand (with_subcommand (with_subcommand (with_subcommand (with_subcommand
+    (with_subcommand top_line format_line.top) list_line.top) serve_line.top) run_line.top)
+    stop_line.top) status_line.top) restore_line.top) devices_line.top) watch_line.top)
+    reload_line.top) copy_line.top
 
 abbrev pub lnsd_line : App
 lnsd_line = with_subcommand (with_subcommand (with_subcommand (with_subcommand (with_subcommand

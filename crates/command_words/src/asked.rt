@@ -36,6 +36,8 @@ pub(crate) fn asked_mode<'a>(
         "stop" => Ok(Some(Mode::Stop { file })),
         "devices" => Ok(Some(Mode::Devices { file })),
         "watch" => Ok(Some(Mode::Watch { file })),
+        "reload" => Ok(Some(Mode::Reload { file })),
+        "copy" => Ok(copy_mode(file, matches)),
         "status" => Ok(status_mode(file, matches)),
         "restore" => Ok(restore_mode(file, matches)),
         "export" => Ok(Some(export_mode(file, matches))),
@@ -81,10 +83,12 @@ fn run_mode<'a>(file: &'a str, matches: &ArgMatches<'a>) -> Option<Mode<'a>>
 {
     let (listen, links) = link_options(matches)?;
     let links = Ranged::new(links)?;
+    let names = matches.get_str("names");
     Some(Mode::Run {
         file,
         listen,
         links,
+        names,
     })
 }
 
@@ -111,6 +115,15 @@ fn restore_mode<'a>(file: &'a str, matches: &ArgMatches<'a>) -> Option<Mode<'a>>
         grants,
         above,
     })
+}
+
+fn copy_mode<'a>(file: &'a str, matches: &ArgMatches<'a>) -> Option<Mode<'a>>
+    requires { first_of (codes "file") (rows_of (found_of matches.now)) ≡ Some file.now }
+    ensures { MatchOption result (AsksForNone (codes "copy") (rows_of (found_of matches.now)))
+        (AsksForMode (codes "copy") (rows_of (found_of matches.now))) }
+{
+    let new = matches.get_str("new")?;
+    Some(Mode::Copy { file, new })
 }
 
 fn export_mode<'a>(file: &'a str, matches: &ArgMatches<'a>) -> Mode<'a>

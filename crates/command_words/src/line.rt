@@ -2,7 +2,8 @@
 ghost use Rattle.std.specs.Prelude.{◌≡◌, ◌≤ℤ◌, codes, false, pos};
 ghost use Rattle.clap.specs.Words.{App, Rule, new_app, rule_of, with_rule, with_subcommand};
 ghost use Rattle.clap.specs.declared.builder.value_parser.ValueParser.TheVariants as parsers;
-ghost use Rattle.command_words.specs.CommandLine.{HasLine, IsCommand, amend_line, devices_line};
+ghost use Rattle.command_words.specs.CommandLine.{HasLine, IsCommand, amend_line, copy_line};
+ghost use Rattle.command_words.specs.CommandLine.{devices_line, reload_line};
 ghost use Rattle.command_words.specs.CommandLine.{export_line, flag_option, format_line, grow_line};
 ghost use Rattle.command_words.specs.CommandLine.{import_line, left_out, list_line, lnsd_line};
 ghost use Rattle.command_words.specs.CommandLine.{option, or_else, range_option, restore_line};
@@ -28,6 +29,7 @@ Examples:
   lnsd devices store
   lnsd watch store
   lnsd stop store
+  lnsd copy store copy
   lnsd list store
   lnsd serve store --listen 127.0.0.1:5600 --links 2
   lnsd restore copy store
@@ -50,6 +52,9 @@ Example: one gateway and one application, both on this machine
   lnsd serve store --listen 127.0.0.1:5600 --links 2";
 
 const RUN_EXAMPLE: &str = "\
+The file of names has a line 'gateway EUI' or 'application N' for each name. `lnsd reload` has the \
+server read it again. Without --names, each name may connect.
+
 Example: for whoever connects on this machine
   lnsd run store --listen 127.0.0.1:5600";
 
@@ -75,6 +80,17 @@ Example:
 const WATCH_EXAMPLE: &str = "\
 Example: which frames are refused, and why
   lnsd watch store | grep refused";
+
+const RELOAD_EXAMPLE: &str = "\
+Example: after a gateway was added to the file that `lnsd run --names` named
+  lnsd reload store";
+
+const COPY_EXAMPLE: &str = "\
+The copy has the devices of one moment, also if the store is being served. Never serve a copy: it \
+would use counters again. `lnsd restore` makes a store of it.
+
+Example:
+  lnsd copy store copy";
 
 const EXPORT_EXAMPLE: &str = "\
 Example: a list with AppKeys, for another store
@@ -121,7 +137,9 @@ fn serving_commands<'a>(alloc: Global) -> Result<Command<'a>, AllocError>
     let lnsd = with_command(lnsd, status(alloc));
     let lnsd = with_command(lnsd, restore(alloc));
     let lnsd = with_command(lnsd, devices(alloc));
-    with_command(lnsd, watch(alloc))
+    let lnsd = with_command(lnsd, watch(alloc));
+    let lnsd = with_command(lnsd, reload_command(alloc));
+    with_command(lnsd, copy_command(alloc))
 }
 
 fn without_commands<'a>(alloc: Global) -> Result<Command<'a>, AllocError>
@@ -234,8 +252,15 @@ fn run_command<'a>(alloc: Global) -> Result<Command<'a>, AllocError>
         1,
         96,
     );
+    let names = option(
+        alloc,
+        "names",
+        "FILE",
+        "The gateways and applications that may connect, a name a line",
+    );
     let run = file_command(alloc, "run", about, RUN_EXAMPLE, store_file(alloc));
-    with_arg(with_arg(run, listen(alloc)), or_else(links, "96"))
+    let run = with_arg(with_arg(run, listen(alloc)), or_else(links, "96"));
+    with_arg(run, left_out(names))
 }
 
 fn stop<'a>(alloc: Global) -> Result<Command<'a>, AllocError>
@@ -258,6 +283,27 @@ fn watch<'a>(alloc: Global) -> Result<Command<'a>, AllocError>
 {
     let about = "Prints the events of the server that runs on a store, a line each, until it ends";
     file_command(alloc, "watch", about, WATCH_EXAMPLE, store_file(alloc))
+}
+
+fn reload_command<'a>(alloc: Global) -> Result<Command<'a>, AllocError>
+    ensures { IsCommand reload_line result }
+{
+    let about = "Has the server that runs on a store read its file of names again";
+    file_command(alloc, "reload", about, RELOAD_EXAMPLE, store_file(alloc))
+}
+
+fn copy_command<'a>(alloc: Global) -> Result<Command<'a>, AllocError>
+    ensures { IsCommand copy_line result }
+{
+    let about = "Copies a store, which may be served meanwhile, to a new file for `lnsd restore`";
+    let new = word(
+        alloc,
+        "new",
+        "NEW",
+        "The file of the copy, which must not exist yet",
+    );
+    let copy = file_command(alloc, "copy", about, COPY_EXAMPLE, store_file(alloc));
+    with_arg(copy, new)
 }
 
 fn status<'a>(alloc: Global) -> Result<Command<'a>, AllocError>

@@ -22,11 +22,12 @@ pub enum Mode<'a> {
         links: Ranged<1, 80>,
     },
     /// To serve links that come and go, at most this number at a time, from the store in a file,
-    /// until the server is stopped.
+    /// until the server is stopped. If a file of names is given, only these may greet.
     Run {
         file: &'a str,
         listen: &'a str,
         links: Ranged<1, 96>,
+        names: Option<&'a str>,
     },
     /// To end the server that runs on the store in a file.
     Stop {
@@ -39,6 +40,15 @@ pub enum Mode<'a> {
     /// To print the events of the server that runs on the store in a file, until it ends.
     Watch {
         file: &'a str,
+    },
+    /// To have the server that runs on the store in a file read its file of names again.
+    Reload {
+        file: &'a str,
+    },
+    /// To copy the store in a file, which may be served meanwhile, to the new file `new`.
+    Copy {
+        file: &'a str,
+        new: &'a str,
     },
     /// To restore the older copy in a file to a new file. The JoinNonces of each device continue
     /// `grants` above the highest known one. The file `above`, if given, has JoinNonces that count

@@ -2,7 +2,7 @@
 use Rattle.std.proofs.Common.{◌≡◌, ◌∙◌, inl, inr, ℕ, List, [], ◌∷◌, ◌++◌, Result, Ok, Err, ap, sym, refl, subst}
 use Rattle.std.specs.Prelude.{MatchResult}
 use Rattle.device_changes.specs.declared.change.Change.{Change}
-use Rattle.device_lists.specs.Lists.{AreFaulty, AreLinesOf, AreRead, IsListOf, IsOnly, IsRefusedText, IsRowFault, IsTaken, RowAsksFor}
+use Rattle.device_lists.specs.Lists.{AreFaulty, AreLinesOf, AreRead, IsListOf, IsOnly, IsRefusedText, IsRowFault, IsNoted, RowAsksFor}
 use Rattle.device_lists.specs.Columns.{IsListHead}
 use Rattle.device_lists.specs.Rows.{AreRows, Numbered}
 use Rattle.device_lists.specs.declared.column.Column.{Column}
@@ -77,7 +77,7 @@ module _ (usage : ListUse) (head : List Column) where
       (λ faulty. (faulty.line ≡ row.line) × IsRowFault usage head row.values faulty.fault)
 
   pub read_last : (rows : List Numbered) (row : Numbered) (old : Reading) (read : Result (ℕ × Change) FaultyLine) (new : Reading)
-      → IsReadOf row read → IsTaken old read new
+      → IsReadOf row read → IsNoted old read new
       → AreRead usage head rows old.list.lines.items old.list.changes.items old.faults.items
       → AreRead usage head (rows ++ row ∷ []) new.list.lines.items new.list.changes.items new.faults.items
   read_last rows row old (Ok read) new is taken were =

@@ -130,12 +130,12 @@ AreLinesOf faults (Lines lines) = (lines.items ≡ faults) × (faults ≢ [])
 AreLinesOf faults OutOfMemory = ⊥
 
 -- what the next row asks for was added to a list as far as it was read
-abbrev pub IsTaken : Reading → Result (ℕ × Change) FaultyLine → Reading → Type 0
-IsTaken old (Ok read) new =
+abbrev pub IsNoted : Reading → Result (ℕ × Change) FaultyLine → Reading → Type 0
+IsNoted old (Ok read) new =
     (new.list.changes.items ≡ old.list.changes.items ++ read.1 ∷ [])
     × (new.list.lines.items ≡ old.list.lines.items ++ read.0 ∷ [])
     × (new.faults.items ≡ old.faults.items)
-IsTaken old (Err faulty) new =
+IsNoted old (Err faulty) new =
     (new.list ≡ old.list) × (new.faults.items ≡ old.faults.items ++ faulty ∷ [])
 
 -- the line of a change that the store's table refuses, or 0 if there is no such change

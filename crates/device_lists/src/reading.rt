@@ -3,7 +3,7 @@ ghost use Rattle.std.specs.Prelude.{◌≡◌, ◌≢◌, [], ◌∷◌, IfErr, 
 ghost use Rattle.csv.specs.Records.{AllText, fields_of};
 ghost use Rattle.device_lists.specs.Columns.{IsListHead};
 ghost use Rattle.device_lists.specs.Lists.{IsHeadFault, IsListOf, IsRefusedText, IsRowFault};
-ghost use Rattle.device_lists.specs.Lists.{AreLinesOf, IsOnly, IsTaken, RowAsksFor, faulty_line};
+ghost use Rattle.device_lists.specs.Lists.{AreLinesOf, IsOnly, IsNoted, RowAsksFor, faulty_line};
 ghost use Rattle.device_lists.specs.declared.fault.ListFault.TheVariants.{OutOfMemory};
 
 use crate::column::place_of;
@@ -51,7 +51,7 @@ pub fn read_list(alloc: Global, text: &[u8], usage: ListUse) -> Result<DeviceLis
     };
     let mut reading = Reading::new(alloc);
     while let Some(row) = rows.next(alloc)? {
-        reading.take(numbered_change(head.as_slice(), row, usage))?;
+        reading.note(numbered_change(head.as_slice(), row, usage))?;
     }
     reading.end()
 }
@@ -106,9 +106,9 @@ impl Reading {
         }
     }
 
-    // Takes what the next row asks for.
-    fn take(&mut self, read: Result<(u64, Change), FaultyLine>) -> Result<(), AllocError>
-        ensures { OnOk result (IsTaken self.old read self.new) }
+    // Notes what the next row asks for.
+    fn note(&mut self, read: Result<(u64, Change), FaultyLine>) -> Result<(), AllocError>
+        ensures { OnOk result (IsNoted self.old read self.new) }
     {
         match read {
             Ok((line, change)) => {
@@ -151,7 +151,8 @@ fn head_columns(
     row: NumberedRow,
 ) -> Result<Result<Vec<Column>, LineFault>, AllocError>
     ensures { IfOk result (λ read. MatchResult read
-        (λ head. IsListHead (fields_of row.values) head.items) (IsHeadFault (fields_of row.values))) }
+        (λ head. IsListHead (fields_of row.values) head.items)
+        (IsHeadFault (fields_of row.values))) }
 {
     let Ok(names) = StringRecord::from_byte_record(row.values) else {
         return Ok(Err(LineFault::Text));
@@ -192,7 +193,8 @@ fn read_columns(
 ) -> Result<Result<(), LineFault>, AllocError>
     requires { head.old.items ≡ [] }
     ensures { IfOk result (λ read. MatchResult read
-        (λ _. IsListHead (fields_of names.now) head.new.items) (IsHeadFault (fields_of names.now))) }
+        (λ _. IsListHead (fields_of names.now) head.new.items)
+        (IsHeadFault (fields_of names.now))) }
 {
     while let Some(name) = names.get(head.len()) {
         let Some(column) = Column::of_name(name) else {

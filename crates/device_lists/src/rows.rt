@@ -1,7 +1,8 @@
 // The rows of a list's text.
 ghost use Rattle.std.specs.Prelude.{◌≡◌, ◌+◌, ◌<◌, ◌^◌, IfErr, IfOk, IfSome, length, option_map};
 ghost use Rattle.csv.specs.Records.{fields_of};
-ghost use Rattle.device_lists.specs.Rows.{HasNoLineFeed, SplitsAfterLine, TakesRow, is_comment, values_in};
+ghost use Rattle.device_lists.specs.Rows.{HasNoLineFeed, SplitsAfterLine, TakesRow};
+ghost use Rattle.device_lists.specs.Rows.{is_comment, values_in};
 ghost use Rattle.device_lists.specs.declared.fault.ListFault.TheVariants.{OutOfMemory};
 
 use crate::ListFault;

@@ -151,7 +151,8 @@ fn may_be_given<T: FromText + Copy>(
     column: Column,
     field: Option<&str>,
 ) -> Result<Option<T>, LineFault>
-    ensures value { MatchResult result (λ x. MayBeGiven T.is_value T.text_of (text_in field.entry) x)
+    ensures value { MatchResult result
+        (λ x. MayBeGiven T.is_value T.text_of (text_in field.entry) x)
         (λ _. (x : Option T) → ¬ (MayBeGiven T.is_value T.text_of (text_in field.entry) x)) }
     ensures why { IfErr result (IsWrongValue column (text_in field.entry)
         ((x : T) × IsGiven T.is_value T.text_of (text_in field.entry) x)) }

@@ -23,7 +23,7 @@ pub struct Downlink {
     pub data_rate: u8,
     /// From the uplink to RX1.
     pub delay: RxDelay,
-    pub windows: ReceiveWindows,
+    pub receive_windows: ReceiveWindows,
     pub frame: PhyPayload,
 }
 

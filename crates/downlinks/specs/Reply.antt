@@ -27,8 +27,8 @@ use Rattle.downlinks.specs.Frame.{DownlinkFields, sent_frame}
 
 -- RX2 takes a MACPayload of at most 59 bytes. A frame has an MHDR of one byte before it and a MIC
 -- of four after it
-abbrev pub windows_for : List ℕ → ReceiveWindows
-windows_for frame = if nat_le (length frame) (1 + 59 + 4) then Rx1OrRx2 else Rx1
+abbrev pub receive_windows_for : List ℕ → ReceiveWindows
+receive_windows_for frame = if nat_le (length frame) (1 + 59 + 4) then Rx1OrRx2 else Rx1
 
 -- a downlink by the gateway that heard the uplink best, in RX1 at the uplink's frequency, or a
 -- second later in RX2
@@ -41,7 +41,7 @@ downlink addr d c best fields =
       frequency = best.reception.frequency;
       data_rate = rx1_data_rate d best;
       delay = d.rx_delay;
-      windows = windows_for bytes;
+      receive_windows = receive_windows_for bytes;
       frame = bytes;
     }
 

@@ -63,7 +63,7 @@ impl DownlinkFields {
         } = self;
         let counter = next_counter(current);
         let confirmed = is_confirmed(&item);
-        let message = match item {
+        let port_payload = match item {
             None => None,
             Some(item) => Some(item_payload(addr, current, item)),
         };
@@ -76,7 +76,7 @@ impl DownlinkFields {
                 f_pending,
             },
             f_cnt: (counter % (1 << 16)) as u16,
-            contents: Contents::new(f_opts, message),
+            contents: Contents::new(f_opts, port_payload),
             mic: Mic([0; 4]),
         }
     }
@@ -103,7 +103,7 @@ fn is_confirmed(item: &Option<Item>) -> bool
 // FPort, and the item's payload, encrypted in place.
 fn item_payload(addr: DevAddr, current: &CurrentSession, item: Item) -> PortPayload
     requires { current.now.next_down < 2 ^ 32 }
-    ensures message { Some result ≡ item_payload addr current.now (Some item) }
+    ensures port_payload { Some result ≡ item_payload addr current.now (Some item) }
     ensures length { length result.frm_payload ≡ length item.payload }
 {
     frame_crypt::laws::a_crypted_payload_has_the_length();

@@ -6,7 +6,8 @@ ghost use Rattle.devices.specs.DeviceStep.{report_effects};
 ghost use Rattle.devices.specs.declared.effect.Report.{Report};
 ghost use Rattle.downlinks.specs.Load.{item_len, has_any};
 ghost use Rattle.downlinks.specs.Reply.{acknowledgement_step, address, answer_step, awaited_by};
-ghost use Rattle.downlinks.specs.Reply.{downlink, more_waits, name_of, sending_step, windows_for};
+ghost use Rattle.downlinks.specs.Reply.{downlink, more_waits, name_of, receive_windows_for};
+ghost use Rattle.downlinks.specs.Reply.{sending_step};
 
 use crate::frame::{DownlinkFields, next_counter};
 use crate::load::{Demand, Load, is_downlink_due, rx1_of};
@@ -197,14 +198,14 @@ fn downlink(
         frequency: window.frequency,
         data_rate: window.data_rate,
         delay: device.rx_delay,
-        windows: windows_for(&frame),
+        receive_windows: receive_windows_for(&frame),
         frame,
     })
 }
 
 // The windows in which the frame may be sent. A MACPayload is five bytes shorter than its frame.
-fn windows_for(frame: &PhyPayload) -> ReceiveWindows
-    ensures { result ≡ windows_for frame.now }
+fn receive_windows_for(frame: &PhyPayload) -> ReceiveWindows
+    ensures { result ≡ receive_windows_for frame.now }
 {
     let longest = usize::from(max_mac(rx2().data_rate));
     if frame.len() <= 5 + longest {

@@ -33,11 +33,11 @@ module _ {C V : Type 0} (effects : V → List Effect) (call : C → V → C → 
   all_more t lives [] more = refl
   all_more t lives (e ∷ events) more = all_more t (lives_after t lives e) events more
 
-  flat_more : (calls more : List V) → flat_map effects (calls ++ more) ≡ flat_map effects calls ++ flat_map effects more
+  pub flat_more : (calls more : List V) → flat_map effects (calls ++ more) ≡ flat_map effects calls ++ flat_map effects more
   flat_more [] more = refl
   flat_more (c ∷ calls) more = ap (λ l. effects c ++ l) (flat_more calls more) ∙ sym (append_assoc (effects c) (flat_map effects calls) (flat_map effects more))
 
-  folds_more : (p q r : C) (calls more : List V) → FoldsTo call p calls q → FoldsTo call q more r → FoldsTo call p (calls ++ more) r
+  pub folds_more : (p q r : C) (calls more : List V) → FoldsTo call p calls q → FoldsTo call q more r → FoldsTo call p (calls ++ more) r
   folds_more p q r [] more is folds = subst (λ x. FoldsTo call x more r) (sym is) folds
   folds_more p q r (c ∷ calls) more (next, first, rest) folds = (next, first, folds_more next q r calls more rest folds)
 

@@ -1,5 +1,6 @@
 pub mod Calling
 pub mod Chains
+pub mod Drawing
 pub mod Ends
 pub mod Holding
 pub mod Lasting

@@ -1,6 +1,7 @@
 pub mod Calls
 pub mod Chain
 pub mod Cycle
+pub mod Drawn
 pub mod Feed
 pub mod Lived
 pub mod Lives

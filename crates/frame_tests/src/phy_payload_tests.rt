@@ -41,11 +41,11 @@ fn joined(f_opts: FOpts, port: Option<u8>, frm_payload: FrmPayload) -> Option<Co
     if f_opts.len() + frm_payload.len() > 242 {
         return None;
     }
-    let message = PortPayload {
+    let port_payload = PortPayload {
         f_port,
         frm_payload,
     };
-    Some(Contents::new(f_opts, Some(message)))
+    Some(Contents::new(f_opts, Some(port_payload)))
 }
 
 // Whether these bytes are written for a frame.
@@ -410,8 +410,8 @@ fn payload_len(alloc: Global, len: usize) -> Option<Option<usize>> {
     let Ok(Phy::DataFrame(data)) = decode(alloc, zeros.get(..len)?) else {
         return None;
     };
-    match data.contents.message() {
-        Some(message) => Some(Some(message.frm_payload.len())),
+    match data.contents.port_payload() {
+        Some(port_payload) => Some(Some(port_payload.frm_payload.len())),
         None => Some(None),
     }
 }
@@ -476,9 +476,9 @@ fn is_copied(whole: &Contents) -> bool {
 
 fn are_parts(contents: Contents) -> bool {
     match contents.into_parts() {
-        (f_opts, Some(message)) => {
-            let is_payload = message.frm_payload.as_slice() == [5, 6].as_slice();
-            f_opts.as_slice() == [2].as_slice() && message.f_port == 9 && is_payload
+        (f_opts, Some(port_payload)) => {
+            let is_payload = port_payload.frm_payload.as_slice() == [5, 6].as_slice();
+            f_opts.as_slice() == [2].as_slice() && port_payload.f_port == 9 && is_payload
         }
         _ => false,
     }

@@ -1,5 +1,5 @@
 -- From how a command ended, and what of it was printed, to what its contract says.
-use Rattle.std.proofs.Common.{◌≡◌, ◌≢◌, ◌≤◌, ◌⊎◌, ◌↔◌, ℕ, List, [], Option, None, Some, Result}
+use Rattle.std.proofs.Common.{◌≡◌, ◌≤◌, ◌⊎◌, ◌↔◌, ℕ, List, [], Option, None, Some, Result}
 use Rattle.std.proofs.Common.{Ok, Err}
 use Rattle.std.proofs.Common.{MatchResult, IfOk, IfErr, IsOk, OnErr, OnOk, inl, inr, refl}
 use Rattle.std.proofs.Common.{subst, sym}
@@ -12,7 +12,7 @@ use Rattle.command_words.specs.declared.mode.Mode.{Mode}
 use Rattle.command_words.specs.declared.mode.Usage.{Usage}
 use Rattle.command_words.specs.declared.mode.Usage.TheVariants as usage
 use Rattle.gateway_server.specs.declared.fault.Fault.{Fault}
-use Rattle.gateway_server.specs.declared.fault.Fault.TheVariants.{Listen}
+use Rattle.gateway_server.specs.Causes.{IsListen}
 use Rattle.gateway_server.specs.Told.{AsksToRun, CannotListen, FellShort, HasStatus, HasUsageStatus}
 use Rattle.gateway_server.specs.Told.{IsAskedFor, IsDone, PrintsSomething, PrintsEarly, WasObeyed}
 use Rattle.gateway_server.specs.Told.{outcome_with}
@@ -122,12 +122,12 @@ of_done ends m contents old new (Err x) status was range ok =
 pub of_fault : {O : Type 0} (ends : Mode → Result (List ℕ) Fault → Type 0) (m : Mode)
     (contents : O → Option (List ℕ)) (old new : O) (fault : Fault) (status : ℕ)
     → ends m (Err fault) × (AsksToRun m ⊎ (new ≡ old)) → (status ≡ 1) ⊎ (status ≡ 3)
-    → (status ≡ 1 → AsksToRun m → fault ≢ Listen)
-    → (status ≡ 3 → AsksToRun m × (fault ≡ Listen)) → HasStatus ends contents old new m status
+    → (status ≡ 1 → AsksToRun m → IsListen fault → ⊥)
+    → (status ≡ 3 → AsksToRun m × IsListen fault) → HasStatus ends contents old new m status
 of_fault ends m contents old new fault status was (inl is) one three =
     inr (inl (is, record { outcome = Err fault; ended = was.0; cause = (one is, was.1) }))
 of_fault ends m contents old new fault status was (inr is) one three =
-    inr (inr (is, ((three is).0, subst (λ f. ends m (Err f)) (three is).1 was.0)))
+    inr (inr (is, ((three is).0, (fault, ((three is).1, was.0)))))
 
 -- what a command's status means
 pub record CommandTells {C O : Type 0} (words : List (List ℕ))

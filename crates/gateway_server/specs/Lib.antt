@@ -1,3 +1,4 @@
+pub mod Causes
 pub mod Lines
 pub mod Lives
 pub mod Told

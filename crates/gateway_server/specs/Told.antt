@@ -1,5 +1,5 @@
 -- What a command prints, and with which status it ends.
-use Rattle.std.specs.Prelude.{◌≡◌, ◌≢◌, ◌≤◌, ◌⊎◌, ℕ, List, Option, Result, Ok, Err, MatchResult}
+use Rattle.std.specs.Prelude.{◌≡◌, ◌≤◌, ◌⊎◌, ℕ, List, Option, Result, Ok, Err, MatchResult}
 use Rattle.std.specs.Prelude.{string_bytes}
 use Rattle.std.specs.Io.KnownBytes.{Appends}
 use Rattle.command_words.specs.Asked.{AskFor}
@@ -8,11 +8,11 @@ use Rattle.command_words.specs.declared.mode.Mode.TheVariants as mode
 use Rattle.command_words.specs.declared.mode.Usage.{Usage}
 use Rattle.command_words.specs.declared.mode.Usage.TheVariants as usage
 use Rattle.gateway_server.specs.declared.fault.Fault.{Fault}
-use Rattle.gateway_server.specs.declared.fault.Fault.TheVariants.{Listen}
+use Rattle.gateway_server.specs.Causes.{IsListen}
 
 -- it prints where it listens, or events, while it runs
 abbrev pub PrintsEarly : Mode → Type 0
-PrintsEarly (mode.Run file listen links) = Unit
+PrintsEarly (mode.Run file listen links names) = Unit
 PrintsEarly (mode.Watch file) = Unit
 PrintsEarly other = ⊥
 
@@ -20,11 +20,12 @@ PrintsEarly other = ⊥
 abbrev pub PrintsSomething : Mode → Type 0
 PrintsSomething (mode.Format file net_id slots) = ⊥
 PrintsSomething (mode.Stop file) = ⊥
+PrintsSomething (mode.Reload file) = ⊥
 PrintsSomething other = Unit
 
 -- it serves links that come and go, and may fail after it has printed where it listens
 abbrev pub AsksToRun : Mode → Type 0
-AsksToRun (mode.Run file listen links) = Unit
+AsksToRun (mode.Run file listen links names) = Unit
 AsksToRun other = ⊥
 
 -- the result of a command that returns such a value: the text to print, or the fault
@@ -59,11 +60,12 @@ pub record FellShort {O : Type 0} (ends : Mode → Result (List ℕ) Fault → T
   pub outcome : Result (List ℕ) Fault
   pub ended : ends m outcome
   pub cause : MatchResult outcome (λ _. PrintsSomething m)
-      (λ fault. (AsksToRun m → fault ≢ Listen) × (AsksToRun m ⊎ (new ≡ old)))
+      (λ fault. (AsksToRun m → IsListen fault → ⊥) × (AsksToRun m ⊎ (new ≡ old)))
 
 -- this is to serve links that come and go, and the address can't be listened on
 abbrev pub CannotListen : (Mode → Result (List ℕ) Fault → Type 0) → Mode → Type 0
-CannotListen ends m = AsksToRun m × ends m (Err Listen)
+CannotListen ends m =
+    AsksToRun m × ((fault : Fault) × (IsListen fault × ends m (Err fault)))
 
 -- the status of what was asked for: 0 if it was done and printed, 3 if it can't listen, or 1
 abbrev pub HasStatus : {O : Type 0} → (Mode → Result (List ℕ) Fault → Type 0)

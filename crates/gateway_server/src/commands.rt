@@ -10,7 +10,7 @@ use std::io;
 use std::io::Write;
 use std::net::Net;
 use std::rt::{Clock, Files};
-use store_files::{RestoreRequest, restore};
+use store_files::{RestoreRequest, copy_store, restore};
 
 /// Carries out what a mode asks for. Only these calls say whether it was done or failed, so a
 /// caller that borrows commands can't claim more than they returned.
@@ -73,6 +73,23 @@ pub trait Commands {
         ensures ended { ends self.old (mode.Watch file.entry) (outcome_with (λ _. []) result)
             self.new }
         ensures quiet { OnErr result (out.new ≡ out.old) };
+
+    /// Has the server that runs on the store in a file read its list of names again.
+    fn reload<R: Files + Net>(&mut self, rt: &R, alloc: Global, file: &str) -> Result<(), Fault>
+        ensures { ends self.old (mode.Reload file.entry) (outcome_with (λ _. []) result)
+            self.new };
+
+    /// Copies the store in a file, which may be served, to a new file. Returns the text to print
+    /// about the copy.
+    fn copy<R: Files<File = File>>(
+        &mut self,
+        rt: &R,
+        alloc: Global,
+        file: &str,
+        new: &str,
+    ) -> Result<String, Fault>
+        ensures { ends self.old (mode.Copy file.entry new.entry)
+            (outcome_with string_bytes result) self.new };
 
     /// The status of the server that runs on the store in a file, or that begins within this number
     /// of seconds.
@@ -170,6 +187,21 @@ impl Commands for ServerCommands {
         out: &mut O,
     ) -> Result<io::Result<()>, Fault> {
         control::watch(rt, alloc, file, out)
+    }
+
+    fn reload<R: Files + Net>(&mut self, rt: &R, alloc: Global, file: &str) -> Result<(), Fault> {
+        control::reload(rt, alloc, file)
+    }
+
+    fn copy<R: Files<File = File>>(
+        &mut self,
+        rt: &R,
+        alloc: Global,
+        file: &str,
+        new: &str,
+    ) -> Result<String, Fault> {
+        let copied = copy_store(rt, alloc, file, new)?;
+        Ok(copied.text)
     }
 
     fn status<R: Files + Net + Clock>(

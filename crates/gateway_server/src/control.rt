@@ -3,7 +3,7 @@ ghost use Rattle.std.specs.Prelude.{◌≡◌, ◌≢◌, ◌++◌, ◌∷◌, [
 ghost use Rattle.std.specs.Prelude.{codes, string_bytes};
 
 use crate::Fault;
-use lnsd_life::{BUSY, Order, WATCHING};
+use lnsd_life::{BUSY, NO_NAMES, Order, RELOADED, WATCHING};
 use lw_types::Refusal;
 use std::alloc::Global;
 use std::fs::File;
@@ -147,6 +147,17 @@ pub(crate) fn stop<R: Files + Net>(rt: &R, alloc: Global, file: &str) -> Result<
         Ok(())
     } else {
         Err(Fault::BrokenOff)
+    }
+}
+
+/// Has the server that runs on the store in a file read its list of names again. If the server
+/// keeps the old list, returns why.
+pub(crate) fn reload<R: Files + Net>(rt: &R, alloc: Global, file: &str) -> Result<(), Fault> {
+    let answer = unbroken(ask(alloc, connect_to(rt, alloc, file)?, Order::Reload)?)?;
+    match answer.as_str() {
+        RELOADED => Ok(()),
+        NO_NAMES => Err(Fault::NoNames),
+        refused => Err(Fault::NotReloaded(String::from_str(alloc, refused.trim_end())?)),
     }
 }
 

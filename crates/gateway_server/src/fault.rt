@@ -1,12 +1,14 @@
 // Why a command failed.
-use lnsd_life::ServeFault;
+use crate::ListenCause;
+use lnsd_life::{NameListFault, ServeFault};
 use lw_types::{Eui, Refusal};
 use std::alloc::AllocError;
 use store_edits::EditFault;
-use store_files::FileFault;
+use store_files::{FileCause, FileFault};
 use thiserror::Error;
 
-/// Why a command failed. Its text follows `lnsd: ` on standard error.
+/// Why a command failed. Its text follows `lnsd: ` on standard error. Some faults have a cause,
+/// which most commands print in a second line.
 #[derive(Debug, Drop, Error)]
 pub enum Fault {
     /// A store is to be made in a file that exists already.
@@ -14,10 +16,25 @@ pub enum Fault {
     Exists,
     /// A file can't be made, or can't be opened to be read and written; or another process has it.
     #[error("file")]
-    File,
+    File(FileCause),
     /// An address can't be listened on, or no link could be accepted there.
     #[error("listen")]
-    Listen,
+    Listen(ListenCause),
+    /// The file of the names that may greet can't be read.
+    #[error("names file")]
+    NamesFile(FileCause),
+    /// The list of the names that may greet isn't taken.
+    #[error("{0}")]
+    Names(NameListFault),
+    /// The server has no list of names to read again.
+    #[error("no names")]
+    NoNames,
+    /// The server didn't take the list of names. This is its answer.
+    #[error("{0}")]
+    NotReloaded(String),
+    /// Each time that a store was read to be copied, its server wrote an area anew meanwhile.
+    #[error("changing")]
+    Changing,
     /// The process may not open as many descriptors as serving needs, which is this number.
     #[error("descriptors {0}")]
     Descriptors(u64),
@@ -85,7 +102,8 @@ impl From<ServeFault> for Fault {
 
     fn from(fault: ServeFault) -> Self {
         match fault {
-            ServeFault::Listen => Fault::Listen,
+            ServeFault::Listen => Fault::Listen(ListenCause::Accepting),
+            ServeFault::Names(fault) => Fault::Names(fault),
             ServeFault::Refused(refusal) => Fault::Refused(refusal),
         }
     }
@@ -100,7 +118,8 @@ impl From<FileFault> for Fault {
     fn from(fault: FileFault) -> Self {
         match fault {
             FileFault::Exists => Fault::Exists,
-            FileFault::File => Fault::File,
+            FileFault::File(cause) => Fault::File(cause),
+            FileFault::Changing => Fault::Changing,
             FileFault::Record(path) => Fault::Record(path),
             FileFault::Line(path, line) => Fault::RecordLine(path, line),
             FileFault::Spent(dev_eui) => Fault::Spent(dev_eui),

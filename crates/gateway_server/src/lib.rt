@@ -2,15 +2,18 @@
 //! work; this one adds files, addresses, the clock and the texts that a user reads.
 #![tactic(auto)]
 
+mod causes;
 mod commands;
 mod control;
 mod descriptors;
 mod edits;
 mod fault;
+mod names_file;
 mod running;
 mod serving;
 mod stores;
 
+pub use causes::ListenCause;
 pub use command_words::{Edit, Mode, Usage, words};
 pub use commands::{Commands, ServerCommands};
 pub use fault::Fault;
@@ -20,3 +23,4 @@ pub use lnsd_life::{
 };
 pub use running::{command, fail};
 pub use serving::FinishedLife;
+pub use store_files::FileCause;

@@ -1,12 +1,14 @@
 // Commands, from their words to their status.
-ghost use Rattle.std.specs.Prelude.{◌≡◌, ◌≢◌, ◌≤◌, ◌⊎◌, ◌↔◌, IfErr, IfOk, IsOk, MatchResult, OnOk};
+ghost use Rattle.std.specs.Prelude.{◌≡◌, ◌≤◌, ◌⊎◌, ◌↔◌, IfErr, IfOk, IsOk, MatchResult, OnOk};
 ghost use Rattle.std.specs.Prelude.{List, ℕ, OnErr, map, string_bytes};
 ghost use Rattle.std.specs.Io.KnownBytes.{Appends};
 ghost use Rattle.command_words.specs.Asked.{AreWrong, AskForHelp};
+ghost use Rattle.gateway_server.specs.Causes.{IsListen};
 ghost use Rattle.gateway_server.specs.Lines.{report_text, run_text};
 ghost use Rattle.gateway_server.specs.Told.{AsksToRun, CannotListen, FellShort, HasStatus};
 ghost use Rattle.gateway_server.specs.Told.{HasUsageStatus, IsAskedFor, IsDone, WasObeyed};
 
+use crate::causes::{cause_line, names_causes};
 use crate::serving::{FinishedLife, run_server, serve};
 use crate::{Commands, Fault};
 use command_words::{Mode, Usage, words};
@@ -39,6 +41,7 @@ pub fn command<R, C: Commands, O: Write, E: Write>(
 where
     R: Files<File = File> + Net<Listener = TcpListener, Stream = TcpStream>,
     R: Clock + Threads + Wait + Sync,
+    R::Dir: Send + Sync,
     ensures status { result ≤ 3 }
     ensures done { result ≡ 0
         → (AskForHelp (map (λ w. w.now) texts.now) × ((commands.new ≡ commands.old)
@@ -77,6 +80,7 @@ fn carry_out<R, C: Commands, O: Write, E: Write>(
 where
     R: Files<File = File> + Net<Listener = TcpListener, Stream = TcpStream>,
     R: Clock + Threads + Wait + Sync,
+    R::Dir: Send + Sync,
     ensures { HasStatus (λ m outcome. C.ends commands.old m outcome commands.new)
         O.contents out.old out.new mode.now result }
 {
@@ -108,15 +112,20 @@ pub fn fail<E: Write>(err: &mut E, fault: &Fault) -> u8
     1
 }
 
-// Prints why the command failed, and returns the status for it.
+// Prints why the command failed, with the cause if it names one, and returns the status for it.
 fn fail_in<E: Write>(err: &mut E, mode: &Mode<'_>, fault: &Fault) -> u8
     ensures range { (result ≡ 1) ⊎ (result ≡ 3) }
-    ensures one { result ≡ 1 → AsksToRun mode.now → fault.now ≢ Fault.Listen }
-    ensures three { result ≡ 3 → AsksToRun mode.now × (fault.now ≡ Fault.Listen) }
+    ensures one { result ≡ 1 → AsksToRun mode.now → IsListen fault.now → ⊥ }
+    ensures three { result ≡ 3 → AsksToRun mode.now × IsListen fault.now }
 {
     let status = fail(err, fault);
+    if names_causes(mode)
+        && let Some(cause) = cause_line(fault)
+    {
+        let _ = writeln!(err, "lnsd: {cause}");
+    }
     match (mode, fault) {
-        (Mode::Run { .. }, Fault::Listen) => 3,
+        (Mode::Run { .. }, Fault::Listen(_)) => 3,
         _ => status,
     }
 }
@@ -133,6 +142,7 @@ fn obey<R, C: Commands, O: Write, E: Write>(
 where
     R: Files<File = File> + Net<Listener = TcpListener, Stream = TcpStream>,
     R: Clock + Threads + Wait + Sync,
+    R::Dir: Send + Sync,
     ensures { WasObeyed (λ m outcome. C.ends commands.old m outcome commands.new) mode.now
         O.contents out.old out.new result }
 {
@@ -156,14 +166,17 @@ where
             file,
             listen,
             links,
+            names,
         } => {
-            let life = run_server(rt, alloc, file, listen, links, out);
+            let life = run_server(rt, alloc, file, listen, links, names, out);
             commands.life_ended(mode, &life);
             tell_run(err, life)
         }
         Mode::Stop { file } => tell_nothing(commands.stop(rt, alloc, file)),
         Mode::Devices { file } => tell_outcome(out, commands.devices(rt, alloc, file)),
         Mode::Watch { file } => commands.watch(rt, alloc, file, out),
+        Mode::Reload { file } => tell_nothing(commands.reload(rt, alloc, file)),
+        Mode::Copy { file, new } => tell_outcome(out, commands.copy(rt, alloc, file, new)),
         Mode::Restore {
             file,
             new,

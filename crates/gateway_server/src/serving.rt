@@ -2,8 +2,10 @@
 ghost use Rattle.std.specs.Prelude.{◌≡◌, IfOk};
 
 use crate::Fault;
+use crate::causes::ListenCause;
 use crate::control::{ControlPath, ENDED, bind_control, path_of, real_file, remove};
 use crate::descriptors::hold_descriptors;
+use crate::names_file::NamesFile;
 use crate::stores::{open_store, open_timed};
 use command_words::Mode;
 use lnsd_life::{
@@ -13,6 +15,7 @@ use lnsd_life::{
 use lnsd_operator::DiskTimes;
 use std::alloc::Global;
 use std::fs::File;
+use std::io;
 use std::io::Write;
 use std::net::{Net, SocketAddr, TcpListener, TcpStream};
 use std::os::unix::net::{UnixListener, UnixStream};
@@ -71,21 +74,31 @@ where
 }
 
 /// Serves links that come and go, at most this number at a time, from the store in a file, until
-/// the server is stopped over its control socket. Prints on `out` where it listens, when the life
-/// has begun. Informs the operator who stopped it when the file is free.
+/// the server is stopped over its control socket. If a file of names is given, only these may
+/// greet; a list that isn't taken is refused before the store is opened. Prints on `out` where it
+/// listens, when the life has begun. Informs the operator who stopped it when the file is free.
 pub(crate) fn run_server<'a, R, O: Write>(
     rt: &R,
     alloc: Global,
     file: &'a str,
     listen: &'a str,
     links: PlaceCount,
+    names: Option<&'a str>,
     out: &mut O,
 ) -> Result<FinishedLife<'a>, Fault>
 where
     R: Files<File = File> + Net<Listener = TcpListener, Stream = TcpStream>,
     R: Clock + Threads + Wait + Sync,
-    ensures { IfOk result (λ life. life.mode ≡ Mode.Run file.entry listen.entry links) }
+    R::Dir: Send + Sync,
+    ensures { IfOk result (λ life. life.mode ≡ Mode.Run file.entry listen.entry links names.entry) }
 {
+    let source = match names {
+        Some(path) => Some(NamesFile { rt, alloc, path }),
+        None => None,
+    };
+    if let Some(source) = &source {
+        source.check(links)?;
+    }
     drop(hold_descriptors(rt, alloc, links)?);
     let times = DiskTimes::new();
     let store = open_timed(rt, alloc, file, &times)?;
@@ -108,6 +121,7 @@ where
         listener,
         control,
         links,
+        source.as_ref(),
         &OpenGate,
         &clock,
         &times,
@@ -119,6 +133,7 @@ where
         file,
         listen,
         links,
+        names,
     };
     let ended = match result {
         Ok(report) => Ok(FinishedLife { mode, report }),
@@ -140,11 +155,13 @@ fn listen_at<'x, R>(rt: &'x R, listen: &str) -> Result<Listening<&'x R>, Fault>
 where
     R: Net<Listener = TcpListener, Stream = TcpStream> + Clock,
 {
-    let Ok(listener) = TcpListener::bind(rt, listen) else {
-        return Err(Fault::Listen);
+    let listener = match TcpListener::bind(rt, listen) {
+        Ok(listener) => listener,
+        Err(error) => return Err(cannot_listen(&error)),
     };
-    let Ok(address) = listener.local_addr() else {
-        return Err(Fault::Listen);
+    let address = match listener.local_addr() {
+        Ok(address) => address,
+        Err(error) => return Err(cannot_listen(&error)),
     };
     let Ok(clock) = Monotonic::start(rt) else {
         return Err(Fault::Clock);
@@ -154,6 +171,11 @@ where
         address,
         clock,
     })
+}
+
+fn cannot_listen(error: &io::Error) -> Fault {
+    let is_system = error.raw_os_error().is_some();
+    Fault::Listen(ListenCause::of(error.kind(), is_system))
 }
 
 // Where links and operators come in, and the clock of the life.

@@ -14,7 +14,7 @@ use std::alloc::Global;
 use std::fs::File;
 use std::rt::{Clock, Files};
 use store::{Store, format_back, open};
-use store_files::{FileFault, create, remove_new};
+use store_files::{FileCause, FileFault, create, remove_new};
 
 /// The store of a file, and what is printed about it.
 #[derive(Drop)]
@@ -78,7 +78,7 @@ pub(crate) fn open_timed<'x, R: Files<File = File> + Clock>(
 ) -> Result<Store<TimedDisk<'x, FileDisk, &'x R>>, Fault> {
     match FileDisk::open(rt, file) {
         Ok(disk) => Ok(open(alloc, TimedDisk::new(disk, rt, times))?),
-        Err(_) => Err(Fault::File),
+        Err(error) => Err(Fault::File(FileCause::of_opening(error.kind()))),
     }
 }
 
@@ -90,6 +90,6 @@ pub(crate) fn open_store<R: Files<File = File>>(
 ) -> Result<Store<FileDisk>, Fault> {
     match FileDisk::open(rt, file) {
         Ok(disk) => Ok(open(alloc, disk)?),
-        Err(_) => Err(Fault::File),
+        Err(error) => Err(Fault::File(FileCause::of_opening(error.kind()))),
     }
 }

@@ -19,7 +19,7 @@ downlink_content d =
     DOWNLINK ∷ (to_be_bytes w64 d.gateway.0
     ++ (to_be_bytes w32 d.stamp
     ++ (to_be_bytes w32 d.frequency
-    ++ (d.data_rate ∷ d.delay ∷ rx2_delay d.windows d.delay ∷ d.frame))))
+    ++ (d.data_rate ∷ d.delay ∷ rx2_delay d.receive_windows d.delay ∷ d.frame))))
 
 abbrev pub downlink_frame : Downlink → List ℕ
 downlink_frame d = wire_frame (downlink_content d)

@@ -25,7 +25,7 @@ pub(crate) fn downlink_frame(alloc: Global, downlink: &Downlink) -> Result<WireF
     let phy_payload = downlink.frame.as_slice();
     let len = HEAD + phy_payload.len();
     let delay = downlink.delay.get() as u8;
-    let rx2_delay = rx2_delay(downlink.windows, delay);
+    let rx2_delay = rx2_delay(downlink.receive_windows, delay);
     let mut bytes = Vec::with_capacity(alloc, 2 + len)?;
     bytes.extend_from_slice(&(len as u16).to_be_bytes())?;
     bytes.push(DOWNLINK)?;
@@ -39,11 +39,11 @@ pub(crate) fn downlink_frame(alloc: Global, downlink: &Downlink) -> Result<WireF
 }
 
 // The delay of RX2 in seconds, one above that of RX1 (RECEIVE_DELAY2); 0 if RX2 isn't to be used.
-fn rx2_delay(windows: ReceiveWindows, rx1_delay: u8) -> u8
+fn rx2_delay(receive_windows: ReceiveWindows, rx1_delay: u8) -> u8
     requires { rx1_delay ≤ 15 }
-    ensures { result ≡ rx2_delay windows rx1_delay }
+    ensures { result ≡ rx2_delay receive_windows rx1_delay }
 {
-    match windows {
+    match receive_windows {
         ReceiveWindows::Rx1 => 0,
         ReceiveWindows::Rx1OrRx2 => rx1_delay + 1,
     }

@@ -31,7 +31,7 @@ pub record IsOpenedAfterCrash {D : Type 0} (laws : Ghosts D) (origin : Origin) (
   pub last : World D laws
   pub made : MakesSteps laws first steps answers last
   pub disk : D
-  pub at : HasDisk last.place disk
+  pub at : HasDisk last.condition disk
   pub survives : Survives origin (course_of origin (beginning origin) steps answers)
       (laws.state disk)
   pub opened : IsOpenedOf image (laws.state disk) store

@@ -270,7 +270,7 @@ pub fn open_after<D: Sim + Drop>(
 ) -> Result<(Vec<Released>, Store<D>), Refusal>
     requires { IsSoundWorld D.state world }
     ensures released { IfOk result (λ found. found.0 ≡ world.released) }
-    ensures crash { (before : D) → HasDisk world.place before → IfOk result
+    ensures crash { (before : D) → HasDisk world.condition before → IfOk result
         (λ found. IsOpenedOf image.now (D.state before) (store_state D.state found.1)) }
     ensures recovers { (origin : Origin) (c : Course) → Follows D.state origin c world → IfOk result
         (λ found. (c.left ≡ effects_of_all found.0.items) × Recovers origin c
@@ -281,9 +281,9 @@ pub fn open_after<D: Sim + Drop>(
         (origin.marks ++ marks_of (effects_of_all found.0.items))) }
     ensures refused { (origin : Origin) (c : Course) → Follows D.state origin c world
         → IfErr result (λ e. (e ≡ OutOfMemory) ⊎ (e ≡ DeviceFailed)) }
-    ensures unarmed { (before : D) → HasDisk world.place before → D.outlook before ≡ AllSucceed
+    ensures unarmed { (before : D) → HasDisk world.condition before → D.outlook before ≡ AllSucceed
         → IfErr result (λ e. e ≢ DeviceFailed) }
-    ensures fails { (before : D) → HasDisk world.place before → D.outlook before ≡ FailsAfter 0
+    ensures fails { (before : D) → HasDisk world.condition before → D.outlook before ≡ FailsAfter 0
         → IsErrAnd result (λ e. e ≡ DeviceFailed) }
 {
     world::laws::what_a_crash_leaves();
@@ -307,7 +307,7 @@ fn crash_from<D: Sim + Drop>(
         → Follows D.state origin (beginning origin) world
         → AreRight origin (beginning origin) steps.now found.0.items) }
     ensures calls { IfOk result (λ found. (calls : CallRecord)
-        → AreCallsAt D.failures D.outlook calls world.place
+        → AreCallsAt D.failures D.outlook calls world.condition
         → AreForetold calls steps.now found.0.items) }
     ensures crash { IfOk result (λ found. (origin : Origin)
         → Follows D.state origin (beginning origin) world
@@ -326,7 +326,7 @@ fn crash_from<D: Sim + Drop>(
         → Follows D.state origin (beginning origin) world
         → e ≢ DeviceFailed → e ≢ OutOfMemory → ⊥) }
     ensures unarmed { IfErr result (λ e. (calls : CallRecord)
-        → AreCallsAt D.failures D.outlook calls world.place → calls.coming ≡ AllSucceed
+        → AreCallsAt D.failures D.outlook calls world.condition → calls.coming ≡ AllSucceed
         → ArmsNothing steps.now → e ≢ DeviceFailed) }
 {
     match run(&mut world, alloc, steps) {

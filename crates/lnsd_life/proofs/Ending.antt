@@ -6,7 +6,7 @@ use Rattle.lw_types.specs.declared.refusal.Refusal.{Refusal}
 use Rattle.lw_types.specs.declared.refusal.Refusal.TheVariants.{Damaged, DeviceFailed, Failed, OutOfMemory, OutOfStep}
 use Rattle.lnsd_operator.specs.Faults.{IsOfBeginning}
 use Rattle.lnsd_operator.specs.declared.fault.ServeFault.{ServeFault}
-use Rattle.lnsd_operator.specs.declared.fault.ServeFault.TheVariants.{Listen, Refused}
+use Rattle.lnsd_operator.specs.declared.fault.ServeFault.TheVariants.{Listen, Names, Refused}
 use Rattle.sessions.specs.declared.decision.Decision.{Decision}
 use Rattle.store.specs.State.{StoreState, store_state}
 use Rattle.store.specs.declared.areas.TheConstants.{LAST_GENERATION}
@@ -109,7 +109,7 @@ module _ {D F C V : Type 0} (disk : Ghosts D) (gives : FeedGives F) (effects : V
   uncommitted old new e false legal illegal had none (inr (fits, inl is)) = refused_as old new e OutOfMemory is none
   uncommitted old new e false legal illegal had none (inr (fits, inr (is, last))) = refused_as old new e DeviceFailed is last
 
-  module _ (wants_memory : (p : F) (n : ℕ) (e : Refusal) (q : F) → gives p n (Err e) q → e ≡ OutOfMemory) where
+  module _ (why_none : (p : F) (n : ℕ) (e : Refusal) (q : F) → gives p n (Err e) q → (e ≡ OutOfMemory) ⊎ (e ≡ OutOfStep)) where
     broken : (old new : Store D disk) (batches : List (List Decision)) (torn : List Decision) (p q : F) (e : Refusal)
         → NoneFailed disk.failures disk.outlook old new
         → HasBroken gives most (IsUntouched disk.state old new) (LastFailed disk.failures disk.outlook old new) (store_state disk.state old) batches torn p q e
@@ -117,7 +117,11 @@ module _ {D F C V : Type 0} (disk : Ghosts D) (gives : FeedGives F) (effects : V
     broken old new batches torn p q e none (WasUnready unasked untorn first (left, inl is)) = refused_as old new e OutOfMemory is none
     broken old new batches torn p q e none (WasUnready unasked untorn first (left, inr (rough, why))) = unchecked old new e old.failed refl none left why
     broken old new batches torn p q e none (HadNoRoom unasked untorn some is) = refused_as old new e OutOfMemory is none
-    broken old new batches torn p q e none (FeedRefused ready untorn given) = refused_as old new e OutOfMemory (wants_memory p _ e q given) none
+    broken old new batches torn p q e none (FeedRefused ready untorn given) =
+        elim (why_none p _ e q given) [
+          | inl is ↦ refused_as old new e OutOfMemory is none
+          | inr is ↦ refused_as old new e OutOfStep is none
+        ]
     broken old new batches torn p q e none (WasUncommitted ready next given why further) = uncommitted old new e old.failed _ _ refl none why
 
     one_refused : (old new : Store D disk) (p q : F) (x y : C) (e : Refusal)
@@ -147,10 +151,10 @@ module _ {D F C V : Type 0} (disk : Ghosts D) (gives : FeedGives F) (effects : V
 
   pub refused_by : (old new : Store D disk) (p q : F) (x y : C) (counts : List ℕ) (result : Result (Unit {0}) Refusal)
       → MakeChains disk gives effects call most old new p q x y (answers_of counts result)
-      → ((p : F) (n : ℕ) (e : Refusal) (q : F) → gives p n (Err e) q → e ≡ OutOfMemory)
+      → ((p : F) (n : ℕ) (e : Refusal) (q : F) → gives p n (Err e) q → (e ≡ OutOfMemory) ⊎ (e ≡ OutOfStep))
       → IfErr result (IsRefused disk old new)
-  refused_by old new p q x y counts (Ok done) made wants_memory = tt
-  refused_by old new p q x y counts (Err e) made wants_memory = all_refused wants_memory old new p q x y counts e made
+  refused_by old new p q x y counts (Ok done) made why_none = tt
+  refused_by old new p q x y counts (Err e) made why_none = all_refused why_none old new p q x y counts e made
 
 -- what is known of a refusal that is passed on
 pub answered_on : {T : Type 0} (result : Result T Refusal) (e : Refusal) (holds : Refusal → Type 0)
@@ -193,5 +197,6 @@ module _ {D : Type 0} (disk : Ghosts D) where
   -- why a life wasn't begun
   pub unbegun : (store : Store D disk) (fault : ServeFault) → IsOfBeginning fault → IsFaultOf disk store store fault
   unbegun store Listen is = refl
+  unbegun store (Names fault) is = refl
   unbegun store (Refused refusal) is =
       subst (IsRefused disk store store) (sym is) (none_yet disk.failures disk.outlook store)

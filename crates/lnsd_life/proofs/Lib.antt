@@ -1,3 +1,5 @@
+mod Decided
 mod Ending
 mod Making
 mod Marking
+mod Numbered

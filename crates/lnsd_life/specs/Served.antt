@@ -1,17 +1,22 @@
 -- How serving changes a store.
-use Rattle.std.specs.Prelude.{◌≡◌, ◌≤◌, ◌⊎◌, ◌+◌, ℕ, true, List, sum, Result, IfErr, IfOk, OnOk}
+use Rattle.std.specs.Prelude.{◌≡◌, ◌≤◌, ◌⊎◌, ◌+◌, ℕ, true, List, drop, length, sum, Result, IfErr}
+use Rattle.std.specs.Prelude.{IfOk, OnOk}
+use mathlib.Core.List.{IsPrefix}
 use Rattle.disk.specs.declared.disk.Disk.{Ghosts}
 use Rattle.lw_types.specs.declared.refusal.Refusal.{Refusal}
 use Rattle.lw_types.specs.declared.refusal.Refusal.TheVariants.{Damaged, DeviceFailed, Failed}
 use Rattle.lw_types.specs.declared.refusal.Refusal.TheVariants.{OutOfMemory, OutOfStep}
 use Rattle.lnsd_life.specs.declared.report.LifeReport.{LifeReport}
 use Rattle.lnsd_operator.specs.declared.fault.ServeFault.{ServeFault}
-use Rattle.lnsd_operator.specs.declared.fault.ServeFault.TheVariants.{Listen, Refused}
+use Rattle.lnsd_operator.specs.declared.fault.ServeFault.TheVariants.{Listen, Names, Refused}
+use Rattle.session_core.specs.Taking.{TakerState}
 use Rattle.sessions.specs.Table.{TableState}
+use Rattle.sessions.specs.declared.decision.Decision.{Decision}
 use Rattle.store.specs.declared.areas.TheConstants.{LAST_GENERATION}
 use Rattle.store.specs.declared.store.Store.{Store}
 use Rattle.store.specs.State.{StoreState, store_state}
 use Rattle.flusher.specs.Calls.{LastFailed, NoneFailed}
+use Rattle.flusher.specs.Cycle.{Commits}
 use Rattle.flusher.specs.Lived.{HaveLed}
 use Rattle.flusher.specs.Lives.{LifeEvent, Lives, lives_after_all}
 
@@ -36,10 +41,12 @@ IsRefused disk old new Damaged =
     × (LAST_GENERATION ≤ (store_state disk.state new).log.generation)
 IsRefused disk old new other = ⊥
 
--- why a life has no report: links couldn't come in, or it was refused
+-- why a life has no report: links couldn't come in, the names that may greet weren't taken, or it
+-- was refused
 abbrev pub IsFaultOf : {D : Type 0} (disk : Ghosts D) → Store D disk → Store D disk → ServeFault
     → Type 0
 IsFaultOf disk old new Listen = new ≡ old
+IsFaultOf disk old new (Names fault) = new ≡ old
 IsFaultOf disk old new (Refused refusal) = IsRefused disk old new refusal
 
 -- why a life that ended well gives no report: memory ran out, or the number decided isn't the
@@ -47,25 +54,53 @@ IsFaultOf disk old new (Refused refusal) = IsRefused disk old new refusal
 abbrev pub IsUntold : ServeFault → Type 0
 IsUntold fault = (fault ≡ Refused OutOfMemory) ⊎ (fault ≡ Refused OutOfStep)
 
+-- What was committed of what was decided. A taker has taken some of the history of a life's
+-- decisions, and has seen more of it or all. The decisions that were committed come next in the
+-- history, each once and in order. If all ended well, the history has no others as far as it was
+-- seen, and this number was taken in all.
+pub record CommitsInOrder (old new : StoreState) (before : TakerState) (result : Result ℕ Refusal)
+    : Type 0 where
+  pub after : TakerState
+  pub committed : List Decision
+  pub next : IsPrefix committed (drop before.taken after.seen)
+  pub commits : Commits old new committed
+  pub all : IfOk result (λ taken. (committed ≡ drop before.taken after.seen)
+      × ((after.taken ≡ length after.seen) × (taken ≡ after.taken)))
+
+-- What a life committed of the history of its decisions: a beginning of it, or all of it if there
+-- is a report, which has the number.
+pub record CommitsHistory (old new : StoreState) (result : Result LifeReport ServeFault) : Type 0 where
+  pub history : List Decision
+  pub committed : List Decision
+  pub next : IsPrefix committed history
+  pub commits : Commits old new committed
+  pub all : IfOk result
+      (λ report. (committed ≡ history) × (report.made ≡ length history))
+
 -- How a life whose threads ran leaves its store. If the life ended well, no call of the disk
--- failed, and the store's number grew by as many decisions as were taken in it: `before` were taken
--- when it began. Otherwise the refusal says why. The lives that led the store here go on.
-pub record IsRun {D : Type 0} (disk : Ghosts D) (old : Store D disk) (before : ℕ)
+-- failed, and the store's number grew by as many decisions as were taken in it: `before` says what
+-- was taken when it began. Otherwise the refusal says why. What was committed is what was decided.
+-- The lives that led the store here go on.
+pub record IsRun {D : Type 0} (disk : Ghosts D) (old : Store D disk) (before : TakerState)
     (result : Result ℕ Refusal) (new : Store D disk) : Type 0 where
   pub healthy : OnOk result (NoneFailed disk.failures disk.outlook old new)
-  pub committed : IfOk result (λ taken. (store_state disk.state new).seq + before
+  pub committed : IfOk result (λ taken. (store_state disk.state new).seq + before.taken
       ≡ (store_state disk.state old).seq + taken)
+  pub decided : CommitsInOrder (store_state disk.state old) (store_state disk.state new)
+      before result
   pub refused : IfErr result (IsRefused disk old new)
   pub lives : disk.honest → IsLedOn (store_state disk.state old) (store_state disk.state new)
 
 -- How serving leaves a store, and what it reports. If there is a report, its shares sum to the
 -- number of decisions made, by which the store's number grew, and no call of the disk failed.
--- Otherwise the fault says why. The lives that led the store here go on.
+-- Otherwise the fault says why. What was committed is what was decided. The lives that led the store
+-- here go on.
 pub record IsServed {D : Type 0} (disk : Ghosts D) (old : Store D disk)
     (result : Result LifeReport ServeFault) (new : Store D disk) : Type 0 where
   pub shares : IfOk result (λ report. sum report.shares.items ≡ report.made)
   pub healthy : OnOk result (NoneFailed disk.failures disk.outlook old new)
   pub committed : IfOk result (λ report. (store_state disk.state new).seq
       ≡ (store_state disk.state old).seq + report.made)
+  pub decided : CommitsHistory (store_state disk.state old) (store_state disk.state new) result
   pub refused : IfErr result (IsFaultOf disk old new)
   pub lives : disk.honest → IsLedOn (store_state disk.state old) (store_state disk.state new)

@@ -1,15 +1,16 @@
 // The flusher, which commits what was decided and releases its effects.
-ghost use Rattle.std.specs.Prelude.{◌≡◌, ◌+◌, ℕ, IsTrue, IfErr, IfOk, OnOk, false, slice_index_or};
+ghost use Rattle.std.specs.Prelude.{◌≡◌, ◌+◌, ℕ, Bool, IsTrue, IfErr, IfOk, List, OnOk, false};
+ghost use Rattle.std.specs.Prelude.{slice_index_or};
 ghost use Rattle.lnsd_links.specs.declared.names.Directory.{Directory};
 ghost use Rattle.flusher.specs.Calls.{NoneFailed};
 ghost use Rattle.flusher.specs.Released.{effects_of_all};
 ghost use Rattle.lnsd_life.specs.Marks.{AreLinksMarked, with_link};
-ghost use Rattle.lnsd_life.specs.Served.{IsLedOn, IsRefused};
-ghost use Rattle.lnsd_links.specs.Routing.{IsRouted};
+ghost use Rattle.lnsd_life.specs.Served.{CommitsInOrder, IsLedOn, IsRefused};
+ghost use Rattle.lnsd_links.specs.Routing.{AreMarked, IsRouted};
 ghost use Rattle.store.specs.State.{store_state};
 
 use disk::Disk;
-use flusher::{Drawn, Released, serve};
+use flusher::{Drawn, Released};
 use gateway_wire::Recipient;
 use lnsd_links::{APPLICATIONS, Directory, LifeStage, MOST_PLACES, route};
 use lnsd_operator::{DiskTimes, Sight};
@@ -28,6 +29,7 @@ const MOST_RINGS: usize = MOST_PLACES as usize + APPLICATIONS;
 /// is committed. Then announces to the senders that nothing more comes, and returns how many
 /// decisions were taken. A refusal closes the links, and what waits for them is lost. If it ends
 /// well, no call of the disk failed, and the store's number grew by the number of decisions taken.
+/// What is committed is what was decided: the decisions that come next in the history, in order.
 pub(crate) fn flush<B: Books, R: Wait, D: Disk>(
     rt: &R,
     alloc: Global,
@@ -38,8 +40,10 @@ pub(crate) fn flush<B: Books, R: Wait, D: Disk>(
     outlets: Vec<Outlet>,
 ) -> Result<u64, Refusal>
     ensures healthy { OnOk result (NoneFailed D.failures D.outlook store.old store.new) }
-    ensures committed { IfOk result (λ taken. (store_state D.state store.new).seq + taker
+    ensures committed { IfOk result (λ taken. (store_state D.state store.new).seq + taker.taken
         ≡ (store_state D.state store.old).seq + taken) }
+    ensures decided { CommitsInOrder (store_state D.state store.old) (store_state D.state store.new)
+        taker result }
     ensures refused { IfErr result (IsRefused D.Disk store.old store.new) }
     ensures lives { D.honest
         → IsLedOn (store_state D.state store.old) (store_state D.state store.new) }
@@ -65,7 +69,7 @@ pub(crate) fn flush<B: Books, R: Wait, D: Disk>(
             tell_times(rt, server, times);
             is_done(rt, server, &mut is_ticked)
         };
-        serve(rt, store, &mut feed, alloc, &mut out, &mut done)
+        feed.serve(store, alloc, &mut out, &mut done)
     };
     if served.is_err() {
         server.stop(rt);
@@ -74,7 +78,7 @@ pub(crate) fn flush<B: Books, R: Wait, D: Disk>(
     server.ring_senders();
     served?;
     durable.raise(store.seq());
-    Ok(feed.share())
+    Ok(feed.taker().share())
 }
 
 // The number of the last decision that the flusher has taken.
@@ -109,13 +113,40 @@ fn let_out<B: Books, R: Wait>(
     }
     let mut marks = [false; MOST_RINGS];
     let mut missed = Vec::new(alloc);
+    let links = server.links.len();
     let directory = server.directory.lock(rt);
-    let lost = route(&directory, outlets, released, &mut marks, &mut missed);
-    mark_links(&directory, server.links.len(), &mut marks);
+    let lost = let_out_by(
+        &directory,
+        links,
+        outlets,
+        released,
+        &mut marks,
+        &mut missed,
+    );
     drop(directory);
     server.signals.counts.dropped.add(lost as u64);
     tell_missed(rt, server, missed);
     ring_links(server, &marks);
+}
+
+// Puts effects into the rings of the links that this directory has, and marks the links that get
+// something. There are this number of links. Returns how many effects were lost.
+fn let_out_by(
+    directory: &Directory,
+    links: usize,
+    outlets: &mut [Outlet],
+    released: Vec<Released>,
+    marks: &mut [bool],
+    missed: &mut Vec<Recipient>,
+) -> usize
+    ensures routed { IsRouted directory.now (effects_of_all released.items) result outlets.old
+        outlets.new }
+    ensures marked { (between : List Bool) × (AreMarked marks.old between outlets.old outlets.new
+        × AreLinksMarked directory.now links between marks.new) }
+{
+    let lost = route(directory, outlets, released, marks, missed);
+    mark_links(directory, links, marks);
+    lost
 }
 
 // Sends the operators who watch the names whose effects were lost.

@@ -10,8 +10,10 @@ mod report;
 mod running;
 mod serving;
 
-pub use lnsd_links::{LinkCount, PlaceCount};
+pub use lnsd_links::{LinkCount, NameList, NameListFault, NameSource, PlaceCount};
 pub use lnsd_operator::{Order, ServeFault};
-pub use lnsd_threads::{BUSY, Gate, LifeClock, Monotonic, NobodyTold, OnBegun, OpenGate, WATCHING};
+pub use lnsd_threads::{
+    BUSY, Gate, LifeClock, Monotonic, NO_NAMES, NobodyTold, OnBegun, OpenGate, RELOADED, WATCHING,
+};
 pub use report::{LifeReport, ServedLife};
 pub use serving::{serve_links, serve_on};

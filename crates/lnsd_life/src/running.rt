@@ -6,7 +6,7 @@ ghost use Rattle.lnsd_life.specs.Served.{IsRun};
 use crate::flushing::flush;
 use crate::parts::{LinkParts, Parts};
 use disk::Disk;
-use lnsd_links::{Outgoing, Spare};
+use lnsd_links::NameSource;
 use lnsd_operator::ATTENDANTS;
 use lnsd_threads::{
     Attendant, Closer, Context, Gate, LifeClock, LiveServer, OnBegun, Worker, start,
@@ -37,10 +37,12 @@ pub(crate) fn run<
     D: Disk + Drop,
     G: Gate + Sync,
     C: LifeClock + Sync,
+    S: NameSource + Sync,
     N: OnBegun,
 >(
     context: &'x Context<'x, R, G, C>,
     server: &'x LiveServer<B>,
+    names: Option<&'x S>,
     store: Store<D>,
     taker: Taker<B>,
     parts: Parts<B>,
@@ -53,7 +55,7 @@ pub(crate) fn run<
         context.rt,
         move |scope|
             ensures { IsRun D.Disk store taker result.result result.store }
-        { run_in(scope, context, server, store, taker, parts, on_begun) },
+        { run_in(scope, context, server, names, store, taker, parts, on_begun) },
     )
 }
 
@@ -65,11 +67,13 @@ fn run_in<
     D: Disk + Drop,
     G: Gate + Sync,
     C: LifeClock + Sync,
+    S: NameSource + Sync,
     N: OnBegun,
 >(
     scope: &Scope<'s, E>,
     context: &'s Context<'s, R, G, C>,
     server: &'s LiveServer<B>,
+    names: Option<&'s S>,
     store: Store<D>,
     taker: Taker<B>,
     parts: Parts<B>,
@@ -83,8 +87,8 @@ fn run_in<
         outlets,
     } = parts;
     let mut started = Started::new(context.alloc);
-    for (number, parts) in links.into_iter().enumerate() {
-        started.start_link(scope, context, server, number, parts);
+    for parts in links {
+        started.start_link(scope, context, server, parts);
     }
     let closer = Closer {
         context,
@@ -93,7 +97,7 @@ fn run_in<
     };
     let name = String::from_str(context.alloc, "closer");
     started.keep_seated(start(scope, name, move || closer.run()));
-    started.start_attendants(scope, context, server);
+    started.start_attendants(scope, context, server, names);
     let mut store = store;
     let result = if started.is_whole {
         on_begun.begun();
@@ -143,29 +147,36 @@ impl<B: Books + Send + Sync> Started<B> {
         scope: &Scope<'s, E>,
         context: &'s Context<'s, R, G, C>,
         server: &'s LiveServer<B>,
-        number: usize,
         parts: LinkParts<B>,
     ) {
-        let Some(link) = server.links.get(number) else {
-            return;
-        };
         let LinkParts {
             seat,
             refused,
-            inlet,
+            spare,
         } = parts;
-        let outgoing = Outgoing::new(context.alloc);
-        link.set_spare(context.rt, Spare { inlet, outgoing });
-        let worker = Worker::new(context, server, link, number, seat, refused);
-        let name = format!(in context.alloc; "link-{number}-in");
+        let place = spare.place;
+        let Some(link) = server.links.get(place) else {
+            return;
+        };
+        link.set_spare(context.rt, spare);
+        let worker = Worker::new(context, server, link, place, seat, refused);
+        let name = format!(in context.alloc; "link-{place}-in");
         self.keep_seated(start(scope, name, move || worker.run()));
     }
 
-    fn start_attendants<'s, E, R: Threads + Wait + Sync, G: Gate + Sync, C: LifeClock + Sync>(
+    fn start_attendants<
+        's,
+        E,
+        R: Threads + Wait + Sync,
+        G: Gate + Sync,
+        C: LifeClock + Sync,
+        S: NameSource + Sync,
+    >(
         &mut self,
         scope: &Scope<'s, E>,
         context: &'s Context<'s, R, G, C>,
         server: &'s LiveServer<B>,
+        names: Option<&'s S>,
     )
         ensures whole { IsTrue self.new.is_whole → IsTrue self.old.is_whole
             × (IsSome server.now.control → length self.new.attendants.items
@@ -179,6 +190,7 @@ impl<B: Books + Send + Sync> Started<B> {
         for number in 0..ATTENDANTS {
             let attendant = Attendant {
                 context,
+                names,
                 server,
                 control,
                 number,

@@ -1,6 +1,11 @@
 // One life of a server.
-ghost use Rattle.std.specs.Prelude.{◌≡◌, ◌≢◌, ◌≤◌, ◌+◌, length, sum, Err, IfErr, IfOk};
-ghost use Rattle.std.specs.Prelude.{cond, map, MatchResult, None, Some};
+ghost use Rattle.std.specs.Prelude.{◌≡◌, ◌≢◌, ◌<◌, ◌≤◌, ◌+◌, length, sum, Err, IfErr, IfOk};
+ghost use Rattle.std.specs.Prelude.{ℕ, cond, false, map, slice_get, true, IsErr, IsSomeAnd};
+ghost use Rattle.std.specs.Prelude.{MatchResult, None, Some};
+ghost use Rattle.lnsd_links.specs.declared.door.Entrance.TheVariants.{Filled};
+ghost use Rattle.lnsd_links.specs.Names.{number_of_names};
+ghost use Rattle.lnsd_links.specs.declared.allowance.CopyRate.TheVariants.{PerSecond};
+ghost use Rattle.lnsd_links.specs.declared.link.Link.{Link};
 ghost use Rattle.lw_types.specs.declared.refusal.Refusal.TheVariants.{OutOfMemory, OutOfStep};
 ghost use Rattle.lnsd_operator.specs.declared.fault.ServeFault.TheVariants.{Refused};
 ghost use Rattle.lnsd_operator.specs.Faults.{IsOfBeginning};
@@ -13,14 +18,14 @@ use crate::running::{LifeEnd, run};
 use crate::{LifeReport, ServedLife};
 use disk::Disk;
 use lnsd_links::{
-    Directory, Door, Entrance, Link, LinkCount, PlaceCount, Policy, Signals, WaitingLines, accept,
-    empty_places,
+    CopyCount, CopyRate, Directory, Door, Entrance, Link, LinkCount, NameList, NameListFault,
+    NameSource, OwnRing, PlaceCount, Policy, Signals, WaitingLines, accept, empty_places,
+    read_names,
 };
 use lnsd_operator::{ControlSocket, Counts, DiskTimes, ServeFault};
 use lnsd_threads::{Context, Gate, LifeClock, LiveServer, NobodyTold, OnBegun};
 use lw_types::Refusal;
-use outbox::Inlet;
-use session_core::{Books, Core, Seat, Shared};
+use session_core::{BlankHistory, Books, Core, Seat, Shared};
 use std::alloc::Global;
 use std::marker::Brand;
 use std::net::TcpListener;
@@ -74,13 +79,14 @@ pub fn serve_links<
     gate: &'x G,
     clock: &'x C,
 ) -> ServedLife<D>
-    ensures { IsServed D.Disk store result.result result.store }
+    ensures served { IsServed D.Disk store result.result result.store }
+    ensures workers { IfOk result.result
+        (λ report. length report.shares.items ≡ links + 1) }
 {
     let streams = match accept(alloc, listener, links) {
         Ok(streams) => streams,
         Err(fault) => return failed(alloc, store, fault),
     };
-    let count = streams.len() as u64;
     let context = Context {
         rt,
         alloc,
@@ -89,11 +95,19 @@ pub fn serve_links<
         times: None,
     };
     let beginning = Beginning {
+        places: links.get(),
         entrance: Entrance::Filled(streams),
         policy: ONCE,
+        names: None,
         control: None,
     };
-    begin(&context, store, count, beginning, &mut NobodyTold)
+    begin(
+        &context,
+        None::<&NoNames>,
+        store,
+        beginning,
+        &mut NobodyTold,
+    )
 }
 
 /// Serves links that come in through a listener, as many at a time as there are places, until the
@@ -117,6 +131,14 @@ pub fn serve_links<
 /// The connection of an operator who sends nothing for two seconds is closed. What operators see of
 /// the disk is in `times`.
 ///
+/// If `names` is given, only the names of its list may greet. The list is read when the life
+/// begins, and again when an operator orders it with [`Order::Reload`]. A life doesn't begin with a
+/// list that isn't taken, or that has as many names as there are places or more. A link that greets
+/// with another name is closed and counted, and takes no name over. A new list closes the links
+/// whose names it doesn't have; a list that isn't taken leaves the old one. While all places are
+/// taken, a link has to greet within a second divided by the number of links that haven't greeted,
+/// so that silent links don't keep a listed name out.
+///
 /// `on_begun` is called when every thread of the life runs. If a thread can't be started, it isn't
 /// called, and the life is refused with `OutOfMemory`.
 pub fn serve_on<
@@ -125,6 +147,7 @@ pub fn serve_on<
     D: Disk + Drop,
     G: Gate + Sync,
     C: LifeClock + Sync,
+    S: NameSource + Sync,
     N: OnBegun,
 >(
     rt: &'x R,
@@ -133,12 +156,15 @@ pub fn serve_on<
     listener: TcpListener,
     control: UnixListener,
     count: PlaceCount,
+    names: Option<&'x S>,
     gate: &'x G,
     clock: &'x C,
     times: &'x DiskTimes,
     on_begun: &mut N,
 ) -> ServedLife<D>
-    ensures { IsServed D.Disk store result.result result.store }
+    ensures served { IsServed D.Disk store result.result result.store }
+    ensures workers { IfOk result.result
+        (λ report. length report.shares.items ≡ count + 1) }
 {
     let Ok(door) = Door::new(listener) else {
         return failed(alloc, store, ServeFault::Listen);
@@ -154,12 +180,48 @@ pub fn serve_on<
         clock,
         times: Some(times),
     };
+    let (policy, list) = match policy_and_names(names, count) {
+        Ok(listed) => listed,
+        Err(fault) => return failed(alloc, store, fault),
+    };
     let beginning = Beginning {
+        places: count.get(),
         entrance: Entrance::Open(door),
-        policy: ANEW,
+        policy,
+        names: list,
         control: Some(control),
     };
-    begin(&context, store, count.get(), beginning, on_begun)
+    begin(&context, names, store, beginning, on_begun)
+}
+
+// The policy of a life whose links come and go, and the list of the names that may greet, if there
+// is one.
+fn policy_and_names<S: NameSource>(
+    names: Option<&S>,
+    places: PlaceCount,
+) -> Result<(Policy, Option<NameList>), ServeFault>
+    ensures { IfErr result IsOfBeginning }
+{
+    match names {
+        Some(source) => listed(source, places),
+        None => Ok((anew(false), None)),
+    }
+}
+
+// The policy of a life whose names are listed, and the list, which has fewer names than this number
+// of places.
+fn listed<S: NameSource>(
+    source: &S,
+    places: PlaceCount,
+) -> Result<(Policy, Option<NameList>), ServeFault>
+    ensures names { IfOk result
+        (λ life. IsSomeAnd life.1 (λ list. number_of_names list < places)) }
+    ensures refused { IfErr result IsOfBeginning }
+{
+    match read_names(source, places.get() as usize) {
+        Ok(list) => Ok((anew(true), Some(list))),
+        Err(fault) => Err(ServeFault::Names(fault)),
+    }
 }
 
 // A life whose links come before it begins, and stay.
@@ -167,55 +229,101 @@ const ONCE: Policy = Policy {
     greeting_wait: None,
     takes_over: false,
     keeps_links: true,
+    crowded_wait: None,
     lines_wait: false,
+    copies: CopyRate::Unlimited,
 };
 
-// A life whose links come and go.
-const ANEW: Policy = Policy {
-    greeting_wait: Some(10_000),
-    takes_over: true,
-    keeps_links: false,
-    lines_wait: true,
-};
-
-// What a life begins with: where its links and its operators come from, and what it does with
-// its links.
-#[derive(Drop)]
-struct Beginning {
-    entrance: Entrance,
-    policy: Policy,
-    control: Option<ControlSocket>,
+// A life whose links come and go. If the names that may greet are listed, the links that haven't
+// greeted share a second while all places are taken.
+fn anew(is_listed: bool) -> Policy
+    ensures { result ≡ record {
+      greeting_wait = Some 10000;
+      takes_over = true;
+      keeps_links = false;
+      crowded_wait = cond is_listed (Some 1000) None;
+      lines_wait = true;
+      copies = PerSecond 1000 400;
+    } }
+{
+    Policy {
+        greeting_wait: Some(10_000),
+        takes_over: true,
+        keeps_links: false,
+        crowded_wait: if is_listed { Some(1000) } else { None },
+        lines_wait: true,
+        copies: CopyRate::PerSecond {
+            copies: CopyCount::new(1000).unwrap(),
+            burst: CopyCount::new(400).unwrap(),
+        },
+    }
 }
 
-// Begins a life with this number of places.
-fn begin<R: Threads + Wait + Sync, D: Disk + Drop, G: Gate + Sync, C: LifeClock + Sync, N: OnBegun>(
+// No list: every name may greet.
+struct NoNames;
+
+impl NameSource for NoNames {
+    fn read(&self) -> Result<NameList, NameListFault> {
+        Err(NameListFault::File)
+    }
+}
+
+// What a life begins with: the number of its places, where its links and its operators come from,
+// and what it does with its links. If the links come before, each place has one.
+#[derive(Drop)]
+struct Beginning {
+    places: u64,
+    entrance: Entrance,
+    policy: Policy,
+    // The names that may greet; every name may if there is no list.
+    names: Option<NameList>,
+    control: Option<ControlSocket>,
+    ghost few: { places ≤ 96 },
+    ghost filled: { (streams : _) → entrance ≡ Filled streams
+        → length streams.items ≡ places },
+}
+
+// Begins a life.
+fn begin<
+    R: Threads + Wait + Sync,
+    D: Disk + Drop,
+    G: Gate + Sync,
+    C: LifeClock + Sync,
+    S: NameSource + Sync,
+    N: OnBegun,
+>(
     context: &Context<'_, R, G, C>,
+    source: Option<&S>,
     store: Store<D>,
-    count: u64,
     beginning: Beginning,
     on_begun: &mut N,
 ) -> ServedLife<D>
-    requires { count ≤ 96 }
-    ensures { IsServed D.Disk store result.result result.store }
+    ensures served { IsServed D.Disk store result.result result.store }
+    ensures workers { IfOk result.result
+        (λ report. length report.shares.items ≡ beginning.places + 1) }
 {
     let core = match Core::new(context.alloc, store.table(), store.seq()) {
         Ok(core) => core,
         Err(refusal) => return failed(context.alloc, store, ServeFault::Refused(refusal)),
     };
-    let links = match empty_places(context.alloc, count) {
+    let links = match empty_places(context.alloc, beginning.places) {
         Ok(links) => links,
         Err(refusal) => return failed(context.alloc, store, ServeFault::Refused(refusal)),
     };
     let seats = links.len() as u64 + 1;
     let places = Places { links, beginning };
     let (made, taken) = (Blank::new(seats), Blank::new(1));
-    serve_life::<Brand, R, D, G, C, N>(context, store, places, core, made, taken, on_begun)
+    let history = BlankHistory::new();
+    serve_life::<Brand, R, D, G, C, S, N>(
+        context, source, store, places, core, made, taken, history, on_begun,
+    )
 }
 
 // The result of a life that isn't begun.
 fn failed<D: Disk>(alloc: Global, store: Store<D>, fault: ServeFault) -> ServedLife<D>
     requires { IsOfBeginning fault }
-    ensures { IsServed D.Disk store result.result result.store }
+    ensures served { IsServed D.Disk store result.result result.store }
+    ensures fault { IsErr result.result }
 {
     ServedLife {
         store,
@@ -229,7 +337,9 @@ fn failed<D: Disk>(alloc: Global, store: Store<D>, fault: ServeFault) -> ServedL
 struct Places {
     links: Vec<Link>,
     beginning: Beginning,
-    ghost few: { length links.items ≤ 96 },
+    ghost count: { length links.items ≡ beginning.places },
+    ghost places: { (place : ℕ) (link : Link) → slice_get links.items place ≡ Some link
+        → link.place ≡ place },
 }
 
 fn serve_life<
@@ -238,42 +348,51 @@ fn serve_life<
     D: Disk + Drop,
     G: Gate + Sync,
     C: LifeClock + Sync,
+    S: NameSource + Sync,
     N: OnBegun,
 >(
     context: &Context<'_, R, G, C>,
+    source: Option<&S>,
     store: Store<D>,
     places: Places,
     core: Core,
     made: Blank,
     taken: Blank,
+    history: BlankHistory,
     on_begun: &mut N,
 ) -> ServedLife<D>
     requires made { (made.name ≡ B.made_name) × (made.parts ≡ B.made_parts)
         × (made.parts ≡ length places.links.items + 1) }
     requires taken { (taken.name ≡ B.taken_name) × (taken.parts ≡ 1) }
+    requires history { history.seen.book ≡ B.history }
     requires core { core
         ≡ new_core (store_state D.state store).table (store_state D.state store).seq }
-    ensures { IsServed D.Disk store result.result result.store }
+    ensures served { IsServed D.Disk store result.result result.store }
+    ensures workers { IfOk result.result
+        (λ report. length report.shares.items ≡ length places.links.items + 1) }
 {
     let all = places.links.len() as u64 + 1;
-    let (mut shared, taker) = Shared::<B>::new(core, all, made, taken);
-    if places.beginning.control.is_some() {
-        shared.observe();
-    }
-    let Equipment {
-        parts,
-        directory,
-        lines,
-    } = match Equipment::new(context.alloc, &mut shared, &places) {
-        Ok(equipment) => equipment,
-        Err(refusal) => return failed(context.alloc, store, ServeFault::Refused(refusal)),
-    };
+    let (mut shared, taker) = Shared::<B>::new(core, all, made, taken, history);
     let Places { links, beginning } = places;
     let Beginning {
         entrance,
         policy,
+        names,
         control,
+        ..
     } = beginning;
+    if control.is_some() {
+        shared.observe();
+    }
+    let made = Equipment::new(context.alloc, &mut shared, links.len(), &policy, names);
+    let Equipment {
+        parts,
+        directory,
+        lines,
+    } = match made {
+        Ok(equipment) => equipment,
+        Err(refusal) => return failed(context.alloc, store, ServeFault::Refused(refusal)),
+    };
     let server = LiveServer {
         signals: Signals::new(links.len() as u64),
         links,
@@ -284,7 +403,7 @@ fn serve_life<
         directory: Mutex::new(directory),
         lines,
     };
-    let end = run(&*context, &server, store, taker, parts, on_begun);
+    let end = run(&*context, &server, source, store, taker, parts, on_begun);
     served_life(context.alloc, server, all, end)
 }
 
@@ -298,6 +417,7 @@ fn served_life<B: Books + Send + Sync, D: Disk + Drop>(
     requires { all ≡ B.made_parts }
     ensures store { result.store ≡ end.store }
     ensures shares { IfOk result.result (λ report. sum report.shares.items ≡ report.made) }
+    ensures workers { IfOk result.result (λ report. length report.shares.items ≡ all) }
     ensures told { IfOk end.result (λ taken.
         MatchResult result.result (λ report. report.made ≡ taken) IsUntold) }
     ensures refused { IfErr end.result (λ refusal. result.result ≡ Err (Refused refusal)) }
@@ -344,38 +464,52 @@ struct Equipment<B: Books> {
 
 impl<B: Books> Equipment<B> {
     // No links yet. If lines wait, applications have rings of their own, after those of the links.
-    fn new(alloc: Global, shared: &mut Shared<B>, places: &Places) -> Result<Self, Refusal>
-        requires { shared.old.left ≡ length places.now.links.items + 1 }
+    // Only the names of the list may greet, if there is one.
+    fn new(
+        alloc: Global,
+        shared: &mut Shared<B>,
+        links: usize,
+        policy: &Policy,
+        names: Option<NameList>,
+    ) -> Result<Self, Refusal>
+        requires few { links ≤ 96 }
+        requires seats { shared.old.left ≡ links + 1 }
         ensures rings { IfOk result (λ equipment. equipment.directory.first_ring
-            ≡ cond places.now.beginning.policy.lines_wait (Some (length places.now.links.items)) None) }
+            ≡ cond policy.now.lines_wait (Some links) None) }
+        ensures names { IfOk result (λ equipment. equipment.directory.listed ≡ names) }
+        ensures lines { IfOk result (λ equipment. (application : ℕ) (waiting : WaitingLines)
+            → slice_get equipment.lines.items application ≡ Some waiting
+            → waiting.application ≡ application) }
         ensures refused { IfErr result (λ e. e ≡ OutOfMemory) }
     {
-        let links = places.links.len();
         let mut parts = Parts::new(alloc, shared, links)?;
-        let (first_ring, lines) = if places.beginning.policy.lines_wait {
-            let inlets = parts.add_lines(alloc)?;
-            (Some(links as u16), waiting_lines(alloc, inlets)?)
+        let (first_ring, lines) = if policy.lines_wait {
+            let rings = parts.add_lines(alloc)?;
+            (Some(links as u16), waiting_lines(alloc, rings)?)
         } else {
             (None, Vec::new(alloc))
         };
         Ok(Equipment {
             parts,
-            directory: Directory::new(alloc, first_ring)?,
+            directory: Directory::new(alloc, first_ring, names)?,
             lines,
         })
     }
 }
 
-// Each inlet behind a lock, in the same order. Refused with `OutOfMemory` if memory runs out.
-fn waiting_lines(alloc: Global, inlets: Vec<Inlet>) -> Result<Vec<WaitingLines>, Refusal>
-    ensures lines { IfOk result (λ lines. length lines.items ≡ length inlets.items) }
+// The lines of each application under a lock, in the same order. Refused with `OutOfMemory` if
+// memory runs out.
+fn waiting_lines(alloc: Global, rings: Vec<OwnRing>) -> Result<Vec<WaitingLines>, Refusal>
+    ensures lines { IfOk result
+        (λ all. map (λ (waiting : WaitingLines). waiting.application) all.items
+        ≡ map (λ (own : OwnRing). own.application) rings.items) }
     ensures refused { IfErr result (λ e. e ≡ OutOfMemory) }
 {
-    let mut lines = Vec::new(alloc);
-    for inlet in inlets {
-        lines.push(Mutex::new(Some(inlet)))?;
+    let mut all = Vec::new(alloc);
+    for own in rings {
+        all.push(WaitingLines::new(own))?;
     }
-    Ok(lines)
+    Ok(all)
 }
 
 // The report. If a seat didn't come back, its thread was never started, since memory ran out. If
@@ -394,7 +528,11 @@ fn report<B: Books>(
         → shared.core.decisions.made ≢ taken }
     ensures sum { IfOk result (λ report. sum report.shares.items ≡ report.made) }
     ensures shares { IfOk result (λ report. report.shares.items ≡ map (λ s. s.made) seats.items) }
+    ensures workers { IfOk result (λ report. length report.shares.items ≡ all) }
 {
+    if seats.len() as u64 != all {
+        return Err(ServeFault::Refused(Refusal::OutOfMemory));
+    }
     let Ok(shares) = shares_of(alloc, &seats) else {
         return Err(ServeFault::Refused(Refusal::OutOfMemory));
     };

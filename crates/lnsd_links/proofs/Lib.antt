@@ -1,6 +1,9 @@
 mod Answered
 mod Found
+mod Lines
 mod Links
+mod Listed
+mod Rates
 mod Routed
 mod Together
 mod Written

@@ -75,12 +75,14 @@ pub named : (old new : Directory) (gateway : Eui) (n : ℕ) (left : List LinkedG
     → new.gateways.items ≡ left ++ record { gateway = gateway; link = n } ∷ []
     → new.applications ≡ old.applications
     → new.first_ring ≡ old.first_ring
+    → new.listed ≡ old.listed
     → IsLinked old (names.Gateway gateway) n new
-named old new gateway n left none others pushed same_applications same_rings =
+named old new gateway n left none others pushed same_applications same_rings same_list =
     record {
       now = ap (gateway_link gateway) pushed ∙ added gateway n left none;
       others = beside;
       rings = same_rings;
+      listed = same_list;
     }
   where
     beside : (other : Recipient) → other ≢ names.Gateway gateway → link_of new other ≡ link_of old other

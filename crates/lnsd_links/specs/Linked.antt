@@ -1,11 +1,12 @@
 -- Which gateways and applications have links.
 use Rattle.std.specs.Prelude.{◌≡◌, ◌≢◌, ◌+◌, ◌&&◌, ◌||◌, ℕ, Bool, Option, Some, None, is_none}
-use Rattle.std.specs.Prelude.{is_some, List, length, nat_eq, nat_lt, not, slice_index_or}
+use Rattle.std.specs.Prelude.{is_some, List, length, nat_eq, nat_lt, not, slice_index_or, true}
 use Rattle.std.specs.List.{find}
-use Rattle.std.specs.Option.{option_map}
+use Rattle.std.specs.Option.{option_map, option_map_or}
 use Rattle.lw_types.specs.declared.identifiers.Eui.{Eui}
 use Rattle.gateway_wire.specs.declared.recipient.Recipient.{Recipient}
 use Rattle.gateway_wire.specs.declared.recipient.Recipient.TheVariants.{Gateway, Application}
+use Rattle.lnsd_links.specs.Names.{has_name}
 use Rattle.lnsd_links.specs.declared.names.Directory.{Directory}
 use Rattle.lnsd_links.specs.declared.names.HeldName.{HeldName}
 use Rattle.lnsd_links.specs.declared.names.LinkedGateway.{LinkedGateway}
@@ -42,28 +43,39 @@ abbrev pub has_free_link : Directory → Recipient → Bool
 has_free_link directory (Gateway gateway) = nat_lt (length directory.gateways.items) MOST_GATEWAYS
 has_free_link directory (Application application) = Bool.true
 
--- its name is free, and there is room for it
+-- this name is one of those that may greet; every name is if there is no list
+abbrev pub is_listed : Directory → Recipient → Bool
+is_listed directory name = option_map_or (λ list. has_name list name) directory.listed true
+
+-- its name is listed and free, and there is room for it
 abbrev pub may_greet : Directory → Recipient → Bool
-may_greet directory name = is_none (link_of directory name) && has_free_link directory name
+may_greet directory name =
+    is_listed directory name && (is_none (link_of directory name) && has_free_link directory name)
 
 -- it already has a link, or there is room for it
+abbrev pub has_link_or_room : Directory → Recipient → Bool
+has_link_or_room directory name = is_some (link_of directory name) || has_free_link directory name
+
+-- its name is listed, and it already has a link, or there is room for it
 abbrev pub may_take_over : Directory → Recipient → Bool
-may_take_over directory name = is_some (link_of directory name) || has_free_link directory name
+may_take_over directory name = is_listed directory name && has_link_or_room directory name
 
 -- a name has this link now, and each other name has the link that it had; the applications' rings
--- stay where they were
+-- and the list of names stay as they were
 pub record IsLinked (old : Directory) (name : Recipient) (link : ℕ) (new : Directory) : Type 0 where
   pub now : link_of new name ≡ Some link
   pub others : (other : Recipient) → other ≢ name → link_of new other ≡ link_of old other
   pub rings : new.first_ring ≡ old.first_ring
+  pub listed : new.listed ≡ old.listed
 
 -- this link has taken over this name
 abbrev pub IsHeld : Recipient → ℕ → HeldName → Type 0
 IsHeld name link held = (held.name ≡ name) × (held.link ≡ link)
 
 -- a name has no link now, and each other name has the link that it had; the applications' rings
--- stay where they were
+-- and the list of names stay as they were
 pub record IsUnlinked (old : Directory) (name : Recipient) (new : Directory) : Type 0 where
   pub now : link_of new name ≡ None
   pub others : (other : Recipient) → other ≢ name → link_of new other ≡ link_of old other
   pub rings : new.first_ring ≡ old.first_ring
+  pub listed : new.listed ≡ old.listed

@@ -11,7 +11,7 @@ ghost use Rattle.outbox.specs.Ring.{seen_by, taken_from};
 use crate::outgoing::{MUCH, Outgoing};
 use crate::rings::PLACES;
 use devices::Effect;
-use gateway_wire::{Emission, Recipient, answer_frame, refused_line};
+use gateway_wire::{Emission, Recipient, refused_line};
 use lw_types::Refusal;
 use outbox::Inlet;
 use std::alloc::Global;
@@ -104,10 +104,7 @@ fn add_effect(alloc: Global, effect: &Effect, outgoing: &mut Outgoing) -> Result
 {
     match Emission::of(alloc, effect)? {
         Emission::Gateway { frame, .. } => outgoing.add(frame.as_slice()),
-        Emission::Application { line, .. } => {
-            let frame = answer_frame(alloc, &line)?;
-            outgoing.add(frame.as_slice())
-        }
+        Emission::Application { line, .. } => outgoing.add_answer(line.as_str().as_bytes()),
     }
 }
 
@@ -119,6 +116,5 @@ pub fn add_refusal(alloc: Global, refusal: Refusal, outgoing: &mut Outgoing) -> 
         (λ e. (e ≡ OutOfMemory) × (outgoing.new ≡ outgoing.old)) }
 {
     let line = refused_line(alloc, refusal)?;
-    let frame = answer_frame(alloc, &line)?;
-    outgoing.add(frame.as_slice())
+    outgoing.add_answer(line.as_str().as_bytes())
 }

@@ -1,5 +1,7 @@
-//! The limits of a server's links. The law is the contract of a function that does nothing.
-ghost use Rattle.std.specs.Prelude.{◌≡◌};
+//! The limits of a server's links. Each law is the contract of a function that does nothing.
+ghost use Rattle.std.specs.Prelude.{◌≡◌, ◌≤◌, ◌+◌, ◌-◌, ◌*◌, ℕ, List};
+ghost use Rattle.lnsd_links.specs.Allowed.{copies_of, ArePaid};
+ghost use Rattle.lnsd_links.specs.declared.allowance.Allowance.{Allowance};
 
 use crate::MOST_GATEWAYS;
 use crate::gathering::SOME;
@@ -17,4 +19,16 @@ pub fn limits_are_these()
     ensures rings { PLACES ≡ 1024 }
     ensures effects { SOME ≡ 64 }
     ensures bytes { MUCH ≡ 16384 }
+{}
+
+/// On a limited link no more copies come than the burst and what is earned in the time from the
+/// first payment to the last one, however they are paid for. If nothing was left at the beginning,
+/// no more come than what is earned.
+pub fn copies_keep_to_their_rate()
+    ensures earned { (payments : List (ℕ × ℕ)) (old : Allowance) (new : Allowance)
+        → ArePaid payments old new
+        → copies_of payments * 1000 ≤ old.level + (new.at - old.at) * old.per_second }
+    ensures burst { (payments : List (ℕ × ℕ)) (old : Allowance) (new : Allowance)
+        → ArePaid payments old new → old.level ≤ old.burst * 1000
+        → copies_of payments * 1000 ≤ old.burst * 1000 + (new.at - old.at) * old.per_second }
 {}

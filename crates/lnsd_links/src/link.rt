@@ -1,8 +1,10 @@
 // The places of a life, and the links in them.
-ghost use Rattle.std.specs.Prelude.{◌≡◌, length, IfErr, MatchResult};
+ghost use Rattle.std.specs.Prelude.{◌≡◌, ℕ, length, IfErr, IfOk, IfSome, MatchResult, Some};
+ghost use Rattle.std.specs.Prelude.{slice_get};
 ghost use Rattle.lw_types.specs.declared.refusal.Refusal.TheVariants.{OutOfMemory};
 ghost use Rattle.lnsd_operator.specs.Faults.{IsOfBeginning};
 
+use crate::names::{HeldName, LeftName};
 use crate::writing::Spare;
 use lnsd_operator::ServeFault;
 use lw_types::{Ranged, Refusal};
@@ -36,9 +38,13 @@ const WRITE_WAIT: u64 = 1;
 /// or nothing more will come.
 #[derive(Drop)]
 pub struct Link {
+    // From 0.
+    place: usize,
     // The current link, so that others can close it.
     current: Mutex<Option<TcpStream>>,
     pub bell: Parker,
+    // Wakes the worker of this place while it waits before it hands in copies.
+    pub pause: Parker,
     // What the senders of this place use in turn; `None` while a sender has it.
     pub spare: Mutex<Option<Spare>>,
     // The current link has ended: nothing more comes for it.
@@ -49,17 +55,50 @@ pub struct Link {
     last_copy: AtomicU64,
 }
 
+/// Shows that the link in a place was closed, since its name went over to another one. Only
+/// [`Link::take`] makes it.
+#[derive(Clone, Copy)]
+pub struct ClosedLink {
+    place: usize,
+}
+
+/// Shows that the link in a place had its name when that was looked at. Only [`Link::named`] makes
+/// it.
+#[derive(Clone, Copy)]
+pub struct Named {
+    place: usize,
+}
+
+/// A name that was left, and the place of its link, for which nothing more comes. Only
+/// [`Link::set_over`] makes it.
+#[derive(Clone, Copy)]
+pub struct LeftLink {
+    held: HeldName,
+    place: usize,
+}
+
 impl Link {
     /// A place without a link.
-    fn new() -> Self {
+    fn new(place: usize) -> Self
+        ensures { result.place ≡ place }
+    {
         Link {
+            place,
             current: Mutex::new(None),
             bell: Parker::new(),
+            pause: Parker::new(),
             spare: Mutex::new(None),
             over: AtomicBool::new(false),
             taken: AtomicBool::new(false),
             last_copy: AtomicU64::new(0),
         }
+    }
+
+    /// The number of the place, from 0.
+    pub fn place(&self) -> usize
+        ensures { result ≡ self.now.place }
+    {
+        self.place
     }
 
     /// Notes that a copy of a frame came on the current link.
@@ -76,11 +115,13 @@ impl Link {
     pub fn close<R: Wait>(&self, rt: &R) {
         self.shut(rt, Shutdown::Both);
         self.bell.unpark();
+        self.pause.unpark();
     }
 
     /// Ends the input of the current link, after what has come.
     pub fn close_input<R: Wait>(&self, rt: &R) {
         self.shut(rt, Shutdown::Read);
+        self.pause.unpark();
     }
 
     fn shut<R: Wait>(&self, rt: &R, how: Shutdown) {
@@ -90,9 +131,12 @@ impl Link {
     }
 
     /// Closes the current link, whose name goes over to another one.
-    pub fn take<R: Wait>(&self, rt: &R) {
+    pub(crate) fn take<R: Wait>(&self, rt: &R) -> ClosedLink
+        ensures { result.place ≡ self.now.place }
+    {
         self.taken.store(true, SeqCst);
         self.close(rt);
+        ClosedLink { place: self.place }
     }
 
     /// Whether the current link lost its name.
@@ -100,8 +144,21 @@ impl Link {
         self.taken.load(SeqCst)
     }
 
+    /// Returns a `Named` if the current link still has its name.
+    pub fn named(&self) -> Option<Named>
+        ensures { IfSome result (λ named. named.place ≡ self.now.place) }
+    {
+        if self.is_taken() {
+            None
+        } else {
+            Some(Named { place: self.place })
+        }
+    }
+
     /// Gives the place what its senders use.
-    pub fn set_spare<R: Wait>(&self, rt: &R, spare: Spare) {
+    pub fn set_spare<R: Wait>(&self, rt: &R, spare: Spare)
+        requires { spare.place ≡ self.now.place }
+    {
         *self.spare.lock(rt) = Some(spare);
     }
 
@@ -118,10 +175,17 @@ impl Link {
         *self.current.lock(rt) = None;
     }
 
-    /// Says that nothing more comes for the current link: its sender writes what waits, and ends.
-    pub fn set_over(&self) {
+    /// Says that nothing more comes for the current link, which left its name: its sender writes
+    /// what waits, and ends.
+    pub fn set_over(&self, left: LeftName) -> LeftLink
+        ensures { (result.held ≡ left.held) × (result.place ≡ self.now.place) }
+    {
         self.over.store(true, SeqCst);
         self.bell.unpark();
+        LeftLink {
+            held: left.held(),
+            place: self.place,
+        }
     }
 
     /// Whether nothing more comes for the current link.
@@ -168,13 +232,16 @@ fn accept_one(listener: &TcpListener) -> Result<TcpStream, ServeFault>
     Err(ServeFault::Listen)
 }
 
-/// This number of places without links. Refused with `OutOfMemory` if memory runs out.
+/// This number of places without links, in order. Refused with `OutOfMemory` if memory runs out.
 pub fn empty_places(alloc: Global, count: u64) -> Result<Vec<Link>, Refusal>
-    ensures { MatchResult result (λ links. length links.items ≡ count) (λ e. e ≡ OutOfMemory) }
+    ensures count { MatchResult result (λ links. length links.items ≡ count)
+        (λ e. e ≡ OutOfMemory) }
+    ensures places { IfOk result (λ links. (place : ℕ) (link : Link)
+        → slice_get links.items place ≡ Some link → link.place ≡ place) }
 {
     let mut links = Vec::new(alloc);
-    for _number in 0..count {
-        links.push(Link::new())?;
+    for place in 0..count as usize {
+        links.push(Link::new(place))?;
     }
     Ok(links)
 }

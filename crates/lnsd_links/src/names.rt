@@ -1,10 +1,14 @@
 // Which gateways and applications have links.
-ghost use Rattle.std.specs.Prelude.{◌≤◌, length, vec_capacity};
+ghost use Rattle.std.specs.Prelude.{◌≡◌, ◌≤◌, ℕ, length, vec_capacity, slice_get, IsSomeAnd};
+ghost use Rattle.std.specs.Prelude.{None, Some};
 
+use crate::link::{ClosedLink, Link};
+use crate::name_list::NameList;
 use devices::Application;
 use gateway_wire::Recipient;
 use lw_types::Eui;
 use std::alloc::{AllocError, Global};
+use std::sync::Wait;
 
 /// The most gateways that have links.
 pub const MOST_GATEWAYS: usize = 64;
@@ -19,7 +23,7 @@ pub struct LinkedGateway {
     pub link: usize,
 }
 
-/// A name that a link has taken over. Only [`Directory::take_over`] makes it.
+/// A name that a link has. Only [`Directory::greet`] and [`Directory::take_over`] make it.
 #[derive(Clone, Copy)]
 pub struct HeldName {
     name: Recipient,
@@ -35,13 +39,18 @@ pub struct LeftName {
 }
 
 impl LeftName {
-    ghost use Rattle.std.specs.Prelude.{◌≡◌};
-
     /// The gateway or application with this name.
     pub fn name(&self) -> Recipient
         ensures { result ≡ self.now.held.name }
     {
         self.held.name
+    }
+
+    /// The name, and the link that left it.
+    pub(crate) fn held(&self) -> HeldName
+        ensures { result ≡ self.now.held }
+    {
+        self.held
     }
 
     /// Whether the link had the name until then, so that no link has it now.
@@ -61,61 +70,161 @@ pub struct Directory {
     applications: [Option<usize>; APPLICATIONS],
     // The ring of application 0; those of the others come after it.
     first_ring: Option<u16>,
+    // The names that may greet. Without a list every name may.
+    listed: Option<NameList>,
     ghost few: { length gateways.items ≤ 64 },
     ghost room: { 64 ≤ vec_capacity gateways },
 }
 
-/// Sixty-four other gateways have links.
+// Closes the link that had a name, if there was one.
+fn close_older<R: Wait>(rt: &R, links: &[Link], was: Option<usize>) -> Option<ClosedLink>
+    ensures closed { (older : ℕ) (closed : Link) → was ≡ Some older
+        → slice_get links.now older ≡ Some closed
+        → IsSomeAnd result (λ shown. shown.place ≡ closed.place) }
+    ensures alone { was ≡ None → result ≡ None }
+{
+    let link = links.get(was?)?;
+    Some(link.take(rt))
+}
+
+// Closes the link of a name that isn't listed, if it has one.
+fn close_unlisted<R: Wait>(
+    rt: &R,
+    links: &[Link],
+    list: &NameList,
+    name: Recipient,
+    link: Option<usize>,
+) {
+    if !list.has(&name) {
+        close_older(rt, links, link);
+    }
+}
+
+/// Why a link isn't given a name.
 #[derive(Clone, Copy, Debug, PartialEq, Eq)]
-pub struct Full;
+pub enum Ungranted {
+    /// The name isn't one of those that may greet.
+    Unlisted,
+    /// Another link has the name.
+    Taken,
+    /// Sixty-four other gateways have links.
+    Full,
+}
 
 impl Directory {
-    ghost use Rattle.std.specs.Prelude.{◌≡◌, ◌≢◌, ◌↔◌, ◌<◌, Some, IsSome, None, IfOk, IsOk, IsTrue};
-    ghost use Rattle.std.specs.Prelude.{IfSome, MatchBool, MatchResult};
-    ghost use Rattle.std.specs.Option.{MatchOption};
+    ghost use Rattle.std.specs.Prelude.{◌≢◌, ◌↔◌, ◌<◌, IsSome, IfOk, IsOk, IsTrue};
+    ghost use Rattle.std.specs.Prelude.{Err, IfErr, MatchBool, MatchResult, false};
     ghost use Rattle.gateway_wire.specs.declared.recipient.Recipient.TheVariants as names;
     ghost use Rattle.lw_types.specs.declared.identifiers.Eui.{Eui};
     ghost use Rattle.lnsd_links.specs.Linked.{gateway_link, link_of, ring_of};
-    ghost use Rattle.lnsd_links.specs.Linked.{may_greet, may_take_over, IsHeld, IsLinked};
-    ghost use Rattle.lnsd_links.specs.Linked.{IsUnlinked};
+    ghost use Rattle.lnsd_links.specs.Linked.{has_link_or_room, is_listed};
+    ghost use Rattle.lnsd_links.specs.Linked.{may_greet, may_take_over};
+    ghost use Rattle.lnsd_links.specs.Linked.{IsHeld, IsLinked, IsUnlinked};
+    ghost use Rattle.lnsd_links.specs.declared.names.Ungranted.TheVariants.{Full, Unlisted};
 
     /// A directory without links. If `first_ring` is given, applications have rings of their own,
-    /// from that one on. All the memory that it ever needs is taken here.
-    pub fn new(alloc: Global, first_ring: Option<u16>) -> Result<Self, AllocError>
+    /// from that one on. If `listed` is given, only its names may greet. All the memory that it
+    /// ever needs is taken here.
+    pub fn new(
+        alloc: Global,
+        first_ring: Option<u16>,
+        listed: Option<NameList>,
+    ) -> Result<Self, AllocError>
         ensures links { IfOk result
             (λ directory. (name : Recipient) → link_of directory name ≡ None) }
         ensures rings { IfOk result (λ directory. directory.first_ring ≡ first_ring) }
+        ensures listed { IfOk result (λ directory. directory.listed ≡ listed) }
     {
         Ok(Directory {
             gateways: Vec::with_capacity(alloc, MOST_GATEWAYS)?,
             applications: [None; APPLICATIONS],
             first_ring,
+            listed,
         })
     }
 
-    /// Gives a link the name with which a gateway or an application greets, if no link has this
-    /// name and, for a gateway, fewer than 64 have links. Otherwise nothing is changed.
-    pub fn greet(&mut self, name: &Recipient, link: usize) -> Option<HeldName>
-        ensures granted { IsSome result ↔ IsTrue (may_greet self.old name.now) }
-        ensures held { IfSome result (IsHeld name.now link) }
-        ensures named { MatchOption result (self.new ≡ self.old)
-            (λ _. IsLinked self.old name.now link self.new) }
+    /// Whether a gateway or an application may greet: every one may if there is no list.
+    pub fn is_listed(&self, name: &Recipient) -> bool
+        ensures { result ≡ is_listed self.now name.now }
     {
-        if self.link_of(name).is_some() {
-            return None;
+        match &self.listed {
+            Some(list) => list.has(name),
+            None => true,
         }
-        let (held, _) = self.take_over(name, link).ok()?;
-        Some(held)
     }
 
-    /// Gives a link the name with which a gateway or an application greets, and returns the link
-    /// that had the name until now. Returns `Full` for one more gateway if 64 others have links;
-    /// then nothing is changed.
-    pub fn take_over(
+    /// Replaces the list of the names that may greet, and closes the links whose names aren't
+    /// listed any more. Their workers leave the names.
+    pub fn relist<R: Wait>(&mut self, rt: &R, links: &[Link], list: NameList)
+        ensures { self.new ≡ record self.old { listed = Some list } }
+    {
+        for linked in &self.gateways {
+            close_unlisted(
+                rt,
+                links,
+                &list,
+                Recipient::Gateway(linked.gateway),
+                Some(linked.link),
+            );
+        }
+        for (number, link) in self.applications.iter().enumerate() {
+            if let Some(application) = Application::new(number as u64) {
+                close_unlisted(rt, links, &list, Recipient::Application(application), *link);
+            }
+        }
+        self.listed = Some(list);
+    }
+
+    /// Gives a link the name with which a gateway or an application greets, if the name is listed,
+    /// no link has it and, for a gateway, fewer than 64 have links. Otherwise nothing is changed.
+    pub fn greet(&mut self, name: &Recipient, link: usize) -> Result<HeldName, Ungranted>
+        ensures granted { IsOk result ↔ IsTrue (may_greet self.old name.now) }
+        ensures held { IfOk result (IsHeld name.now link) }
+        ensures named { MatchResult result (λ _. IsLinked self.old name.now link self.new)
+            (λ _. self.new ≡ self.old) }
+        ensures unlisted { (result ≡ Err Unlisted) ↔ (is_listed self.old name.now ≡ false) }
+    {
+        if self.is_listed(name) && self.link_of(name).is_some() {
+            return Err(Ungranted::Taken);
+        }
+        let (held, _) = self.give(name, link)?;
+        Ok(held)
+    }
+
+    /// Gives a link the name with which a gateway or an application greets, and closes the link of
+    /// `links` that had the name until now. Returns `Unlisted` for a name that isn't listed, and
+    /// `Full` for one more gateway if 64 others have links; then nothing is changed. There is no
+    /// other way to take a name over, so a caller that locks the directory keeps it locked until
+    /// the older link is closed.
+    pub fn take_over<R: Wait>(
+        &mut self,
+        rt: &R,
+        links: &[Link],
+        name: &Recipient,
+        link: usize,
+    ) -> Result<(HeldName, Option<ClosedLink>), Ungranted>
+        ensures unlisted { (result ≡ Err Unlisted) ↔ (is_listed self.old name.now ≡ false) }
+        ensures granted { IsOk result ↔ IsTrue (may_take_over self.old name.now) }
+        ensures held { IfOk result (λ taken. IsHeld name.now link taken.0) }
+        ensures named { MatchResult result (λ _. IsLinked self.old name.now link self.new)
+            (λ _. self.new ≡ self.old) }
+        ensures closed { IfOk result (λ taken. (older : ℕ) (closed : Link)
+            → link_of self.old name.now ≡ Some older → slice_get links.now older ≡ Some closed
+            → IsSomeAnd taken.1 (λ shown. shown.place ≡ closed.place)) }
+        ensures alone { IfOk result
+            (λ taken. link_of self.old name.now ≡ None → taken.1 ≡ None) }
+    {
+        let (held, was) = self.give(name, link)?;
+        Ok((held, close_older(rt, links, was)))
+    }
+
+    // Gives a link a name, and returns the link that had it until now.
+    fn give(
         &mut self,
         name: &Recipient,
         link: usize,
-    ) -> Result<(HeldName, Option<usize>), Full>
+    ) -> Result<(HeldName, Option<usize>), Ungranted>
+        ensures unlisted { (result ≡ Err Unlisted) ↔ (is_listed self.old name.now ≡ false) }
         ensures granted { IsOk result ↔ IsTrue (may_take_over self.old name.now) }
         ensures held { IfOk result (λ taken. IsHeld name.now link taken.0) }
         ensures named { MatchResult result
@@ -123,6 +232,9 @@ impl Directory {
             × IsLinked self.old name.now link self.new)
             (λ _. self.new ≡ self.old) }
     {
+        if !self.is_listed(name) {
+            return Err(Ungranted::Unlisted);
+        }
         let was = match name {
             Recipient::Gateway(gateway) => self.take_over_gateway(*gateway, link)?,
             Recipient::Application(application) => {
@@ -135,8 +247,9 @@ impl Directory {
         Ok((HeldName { name: *name, link }, was))
     }
 
-    fn take_over_gateway(&mut self, gateway: Eui, link: usize) -> Result<Option<usize>, Full>
-        ensures granted { IsOk result ↔ IsTrue (may_take_over self.old (names.Gateway gateway)) }
+    fn take_over_gateway(&mut self, gateway: Eui, link: usize) -> Result<Option<usize>, Ungranted>
+        ensures granted { IsOk result ↔ IsTrue (has_link_or_room self.old (names.Gateway gateway)) }
+        ensures full { IfErr result (λ why. why ≡ Full) }
         ensures named { MatchResult result
             (λ was. (was ≡ link_of self.old (names.Gateway gateway))
             × IsLinked self.old (names.Gateway gateway) link self.new)
@@ -144,12 +257,12 @@ impl Directory {
     {
         let was = self.gateway_link(gateway);
         if was.is_none() && self.gateways.len() >= MOST_GATEWAYS {
-            return Err(Full);
+            return Err(Ungranted::Full);
         }
         self.forget_gateway(gateway);
         match self.gateways.push(LinkedGateway { gateway, link }) {
             Ok(()) => Ok(was),
-            Err(_) => Err(Full),
+            Err(_) => Err(Ungranted::Full),
         }
     }
 
@@ -191,6 +304,7 @@ impl Directory {
             → length self.new.gateways.items < length self.old.gateways.items }
         ensures applications { self.new.applications ≡ self.old.applications }
         ensures rings { self.new.first_ring ≡ self.old.first_ring }
+        ensures listed { self.new.listed ≡ self.old.listed }
     {
         self.gateways.retain(|linked| linked.gateway.0 != gateway.0);
     }

@@ -1,7 +1,10 @@
 // Frames that are sent together.
-ghost use Rattle.std.specs.Prelude.{◌≡◌, ◌++◌, ◌≤◌, ◌↔◌, [], length, IsTrue, MatchResult};
+ghost use Rattle.std.specs.Prelude.{◌≡◌, ◌++◌, ◌≤◌, ◌↔◌, ℕ, List, [], length, IsTrue, MatchResult};
+ghost use Rattle.std.specs.Prelude.{OnOk};
+ghost use Rattle.gateway_wire.specs.Answer.{answer_frame};
 ghost use Rattle.lw_types.specs.declared.refusal.Refusal.TheVariants.{OutOfMemory};
 
+use gateway_wire::{ANSWER, LONGEST_ANSWER};
 use lw_types::Refusal;
 use std::alloc::{AllocError, Global};
 use std::marker::Model;
@@ -50,6 +53,21 @@ impl Outgoing {
         Ok(())
     }
 
+    /// Puts the frame of an answer with this line after the others. Refused with `OutOfMemory` if
+    /// memory runs out; then nothing is changed.
+    pub fn add_answer(&mut self, line: &[u8]) -> Result<(), Refusal>
+        requires { length line.now ≤ LONGEST_ANSWER }
+        ensures { MatchResult result (λ _. self.new ≡ self.old ++ answer_frame line.now)
+            (λ e. (e ≡ OutOfMemory) × (self.new ≡ self.old)) }
+    {
+        let before = self.bytes.len();
+        if put_answer(&mut self.bytes, line).is_err() {
+            self.bytes.truncate(before);
+            return Err(Refusal::OutOfMemory);
+        }
+        Ok(())
+    }
+
     /// Whether there is enough to send.
     pub fn is_much(&self) -> bool
         ensures { IsTrue result ↔ (MUCH ≤ length self.now) }
@@ -74,4 +92,18 @@ impl Outgoing {
     {
         self.bytes.clear();
     }
+}
+
+// Puts the frame of an answer with this line after these bytes; if memory runs out, perhaps only a
+// part of the frame.
+fn put_answer(bytes: &mut Vec<u8>, line: &[u8]) -> Result<(), AllocError>
+    requires { length line.now ≤ LONGEST_ANSWER }
+    ensures put { OnOk result (bytes.new.items ≡ bytes.old.items ++ answer_frame line.now) }
+    ensures kept { (more : List ℕ) × (bytes.new.items ≡ bytes.old.items ++ more) }
+{
+    let len = (1 + line.len()) as u16;
+    bytes.extend_from_slice(&len.to_be_bytes())?;
+    bytes.push(ANSWER)?;
+    bytes.extend_from_slice(line)?;
+    Ok(())
 }

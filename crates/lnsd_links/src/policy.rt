@@ -1,4 +1,5 @@
 // What a life does with its links.
+use crate::allowance::CopyRate;
 
 /// What a life does with its links.
 #[derive(Clone, Copy)]
@@ -9,6 +10,11 @@ pub struct Policy {
     pub takes_over: bool,
     /// A link's name and its socket stay until the life ends, even if the link's input has ended.
     pub keeps_links: bool,
+    /// While all places are taken, the links that haven't greeted have only this time, in
+    /// milliseconds, divided by their number; without such a limit if there is none.
+    pub crowded_wait: Option<u64>,
     /// Lines for an application wait while it has no link.
     pub lines_wait: bool,
+    /// How fast a gateway's copies are taken.
+    pub copies: CopyRate,
 }

@@ -1,5 +1,7 @@
 // The signals between the threads of a life. A thread that waits checks first, finds nothing, and
 // parks. A thread that rings changes something first, and then rings. So no change is missed.
+ghost use Rattle.std.specs.Prelude.{◌≡◌};
+
 use lnsd_operator::Counts;
 use std::sync::Wait;
 use std::sync::atomic::Ordering::SeqCst;
@@ -8,11 +10,15 @@ use std::thread::Parker;
 
 #[derive(Drop)]
 pub struct Signals {
+    // The number of workers at the beginning.
+    workers: u64,
     // The number of workers that may still hand something in.
     open_inputs: AtomicU64,
     pub counts: Counts,
     // The number of links in their places.
     linked: AtomicU64,
+    // The number of these that haven't greeted.
+    strangers: AtomicU64,
     // How far the life has come, by the stage's number.
     stage: AtomicU64,
     // The store is at fault, and the links are closed.
@@ -56,11 +62,16 @@ impl LifeStage {
 pub struct Ending(());
 
 impl Signals {
-    pub fn new(inputs: u64) -> Self {
+    /// The signals of a life with this number of workers.
+    pub fn new(workers: u64) -> Self
+        ensures { result.workers ≡ workers }
+    {
         Signals {
-            open_inputs: AtomicU64::new(inputs),
+            workers,
+            open_inputs: AtomicU64::new(workers),
             counts: Counts::new(),
             linked: AtomicU64::new(0),
+            strangers: AtomicU64::new(0),
             stage: AtomicU64::new(LifeStage::Serving.number()),
             stopped: AtomicBool::new(false),
             closer_idle: AtomicBool::new(false),
@@ -82,6 +93,24 @@ impl Signals {
 
     pub fn linked(&self) -> u64 {
         self.linked.load(SeqCst)
+    }
+
+    /// Counts a link that hasn't greeted.
+    pub fn count_stranger(&self) {
+        self.strangers.fetch_add(1, SeqCst);
+    }
+
+    /// Counts a link that has greeted, or isn't asked to any more.
+    pub fn count_known(&self) {
+        self.strangers.fetch_sub(1, SeqCst);
+    }
+
+    /// The number of links that haven't greeted, if all places are taken.
+    pub fn crowd(&self) -> Option<u64> {
+        if self.linked() < self.workers {
+            return None;
+        }
+        Some(self.strangers.load(SeqCst))
     }
 
     /// Says that the life has come as far as this stage, at least.

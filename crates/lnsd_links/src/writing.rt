@@ -1,11 +1,13 @@
 // A sender, which writes to a link.
-ghost use Rattle.std.specs.Prelude.{◌≡◌, ◌≤◌, ◌+◌, ◌⊎◌, ◌↔◌, [], length, IsTrue};
+ghost use Rattle.std.specs.Prelude.{◌≡◌, ◌≤◌, ◌+◌, ◌⊎◌, ◌↔◌, [], length, IfSome, IsTrue, None};
+ghost use Rattle.lnsd_links.specs.declared.link.Named.{Named};
+ghost use Rattle.lnsd_links.specs.declared.writing.MayWrite.TheVariants.{Still};
 ghost use Rattle.outbox.specs.Ring.{seen_by, taken_from};
 ghost use Rattle.rtrb.specs.Ring.{known_items, received};
 ghost use Rattle.lnsd_links.specs.Sending.{AreGathered, HaveAnswered, IsHandedOver, IsWrittenTo};
 
 use crate::gathering::{Gathered, SOME, add_refusal, gather};
-use crate::link::Link;
+use crate::link::{Link, Named};
 use crate::outgoing::{MUCH, Outgoing};
 use crate::rings::WaitingLines;
 use crate::signals::Signals;
@@ -46,49 +48,80 @@ pub struct Sender<'x, R: Wait> {
     pub is_broken: bool,
 }
 
+// What shows that a sender may write what waits.
+#[derive(Clone, Copy)]
+pub(crate) enum MayWrite {
+    // What waits is for this link alone.
+    Alone,
+    // What waits is for the link of a name, and this link still has that name.
+    Still(Named),
+}
+
 impl<'x, R: Wait> Sender<'x, R> {
     /// Writes to the link until nothing more can come, and then ends its output. Returns what the
     /// next sender of the place uses.
-    pub fn run(self) -> Spare {
+    pub fn run(self) -> Spare
+        ensures { result.place ≡ self.entry.link.now.place }
+    {
         let mut sender = self;
+        let link = sender.link;
         let _ = sender.outgoing.reserve();
         for _ in sender.rt.forever() {
-            if sender.signals.is_stopped() || sender.is_given_up() {
+            if sender.signals.is_stopped() {
                 break;
             }
+            let Some(may_write) = sender.may_write() else {
+                break;
+            };
             // This is read first: if it is true, everything that was put before is seen by the
             // reads after it.
             let is_last = sender.is_last();
-            if sender.send_some() {
+            if sender.send_some(may_write) {
                 continue;
             }
             if is_last {
                 break;
             }
-            sender.link.bell.park(sender.rt);
+            link.bell.park(sender.rt);
         }
         let _ = sender.stream.shutdown(Shutdown::Write);
         Spare {
+            place: link.place(),
             inlet: sender.inlet,
             outgoing: sender.outgoing,
         }
     }
 
-    // Whether the sender leaves what waits for the next link of this name.
-    fn is_given_up(&self) -> bool
-        ensures keeps { IsTrue result → IsTrue self.now.keeps }
-        ensures broken { IsTrue self.now.keeps → IsTrue self.now.is_broken → IsTrue result }
+    // `None` if the sender leaves what waits for the next link of this name: if the link is broken,
+    // or lost the name.
+    fn may_write(&self) -> Option<MayWrite>
+        ensures kept { IsTrue self.now.keeps → IfSome result (λ may. (named : Named)
+            × ((may ≡ Still named) × (named.place ≡ self.now.link.now.place))) }
+        ensures broken { IsTrue self.now.keeps → IsTrue self.now.is_broken → result ≡ None }
+        ensures left { result ≡ None → IsTrue self.now.keeps }
     {
-        self.keeps && (self.is_broken || self.link.is_taken())
+        if !self.keeps {
+            return Some(MayWrite::Alone);
+        }
+        if self.is_broken {
+            return None;
+        }
+        Some(MayWrite::Still(self.link.named()?))
     }
 
     // Whether nothing more is put into the ring for this link.
-    fn is_last(&mut self) -> bool {
+    fn is_last(&mut self) -> bool
+        ensures { self.new ≡ record self.old { inlet = self.new.inlet } }
+    {
         self.link.is_over() || self.inlet.is_finished()
     }
 
     // Sends some of what waits, refusals first. Returns whether there was something.
-    fn send_some(&mut self) -> bool {
+    fn send_some(&mut self, may_write: MayWrite) -> bool
+        requires { IsTrue self.old.keeps → (named : Named)
+            × ((may_write ≡ Still named) × (named.place ≡ self.old.link.now.place)) }
+    {
+        let _ = may_write;
         let mut stream = self.stream;
         let handed = self.hand_over(&mut stream);
         self.count_dropped(handed.dropped);
@@ -237,13 +270,15 @@ struct HandedOver {
 /// What the senders of a place use, one after another.
 #[derive(Drop)]
 pub struct Spare {
+    /// The number of the place, from 0.
+    pub place: usize,
     pub inlet: Inlet,
     pub outgoing: Outgoing,
 }
 
 /// A link whose peer has greeted: its socket and its name.
 #[derive(Drop)]
-pub struct Call {
+pub struct GreetedLink {
     pub stream: TcpStream,
     pub name: Recipient,
 }
@@ -260,7 +295,7 @@ pub struct HostSender<'x, R: Wait> {
     // All links: the sender of another link may wait for these lines.
     pub links: &'x [Link],
     pub link: &'x Link,
-    pub call: &'x Call,
+    pub greeted: &'x GreetedLink,
 }
 
 impl<'x, R: Wait> HostSender<'x, R> {
@@ -284,15 +319,26 @@ impl<'x, R: Wait> HostSender<'x, R> {
             return spare;
         };
         let Spare {
+            place,
             inlet: unused,
             outgoing,
         } = spare;
-        let Spare { inlet, outgoing } = self.send(Spare { inlet, outgoing }, refusals);
-        *lines.lock(self.rt) = Some(inlet);
+        let spare = Spare {
+            place,
+            inlet,
+            outgoing,
+        };
+        let Spare {
+            place,
+            inlet,
+            outgoing,
+        } = self.send(spare, refusals);
+        lines.give_back(self.rt, inlet);
         for link in self.links {
             link.bell.unpark();
         }
         Spare {
+            place,
             inlet: unused,
             outgoing,
         }
@@ -301,7 +347,7 @@ impl<'x, R: Wait> HostSender<'x, R> {
     // `None` if the link ended, or the life was stopped, before the ring was available.
     fn wait_for(&self, lines: &WaitingLines) -> Option<Inlet> {
         for _ in self.rt.forever() {
-            let inlet = lines.lock(self.rt).take();
+            let inlet = lines.take(self.rt);
             if inlet.is_some() {
                 return inlet;
             }
@@ -314,15 +360,19 @@ impl<'x, R: Wait> HostSender<'x, R> {
     }
 
     fn send(&self, spare: Spare, refusals: Consumer<Refusal>) -> Spare {
-        let Spare { inlet, outgoing } = spare;
+        let Spare {
+            inlet,
+            outgoing,
+            ..
+        } = spare;
         let sender = Sender {
             rt: self.rt,
             alloc: self.alloc,
             signals: self.signals,
             watch: self.watch,
             link: self.link,
-            stream: &self.call.stream,
-            name: &self.call.name,
+            stream: &self.greeted.stream,
+            name: &self.greeted.name,
             inlet,
             refusals,
             outgoing,

@@ -2,9 +2,10 @@
 use Rattle.std.specs.Prelude.{◌≡◌, ⊤}
 use Rattle.lw_types.specs.declared.refusal.Refusal.TheVariants.{OutOfMemory}
 use Rattle.lnsd_operator.specs.declared.fault.ServeFault.{ServeFault}
-use Rattle.lnsd_operator.specs.declared.fault.ServeFault.TheVariants.{Listen, Refused}
+use Rattle.lnsd_operator.specs.declared.fault.ServeFault.TheVariants.{Listen, Names, Refused}
 
--- links couldn't come in, or memory ran out
+-- links couldn't come in, memory ran out, or the list of names wasn't taken
 abbrev pub IsOfBeginning : ServeFault → Type 0
 IsOfBeginning Listen = ⊤
 IsOfBeginning (Refused refusal) = refusal ≡ OutOfMemory
+IsOfBeginning (Names fault) = ⊤

@@ -13,6 +13,8 @@ use std::io;
 use std::net::Shutdown;
 use std::os::fd::OwnedFd;
 use std::os::unix::net::{UnixListener, UnixStream};
+use std::sync::atomic::AtomicU64;
+use std::sync::atomic::Ordering::SeqCst;
 use std::sync::{Mutex, Wait};
 use std::thread::Parker;
 
@@ -28,6 +30,8 @@ pub struct ControlSocket {
     latch: UnixStream,
     // For each attendant, the operator that it serves, so that others can close the connection.
     desks: Vec<Mutex<Option<UnixStream>>>,
+    // The number of desks with an operator.
+    busy: AtomicU64,
     // The operators who asked the life to end. They get an answer when it has ended.
     waiting: Mutex<Vec<UnixStream>>,
     // Never rung: a timer for the pause after a failed accept.
@@ -66,6 +70,7 @@ impl ControlSocket {
             listener,
             latch,
             desks,
+            busy: AtomicU64::new(0),
             waiting: Mutex::new(Vec::new(alloc)),
             pause: Parker::new(),
             watch: Watch::new(alloc)?,
@@ -95,11 +100,27 @@ impl ControlSocket {
         let _ = self.waiting.lock(rt).push(stream);
     }
 
-    /// Registers the operator that an attendant serves.
-    pub fn show<R: Wait>(&self, rt: &R, number: usize, stream: Option<UnixStream>) {
+    /// Registers the operator that an attendant serves, until [`ControlSocket::hide`] is called.
+    pub fn show<R: Wait>(&self, rt: &R, number: usize, stream: UnixStream) {
+        self.busy.fetch_add(1, SeqCst);
+        self.set_desk(rt, number, Some(stream));
+    }
+
+    /// The attendant serves nobody.
+    pub fn hide<R: Wait>(&self, rt: &R, number: usize) {
+        self.set_desk(rt, number, None);
+        self.busy.fetch_sub(1, SeqCst);
+    }
+
+    fn set_desk<R: Wait>(&self, rt: &R, number: usize, stream: Option<UnixStream>) {
         if let Some(desk) = self.desks.get(number) {
             *desk.lock(rt) = stream;
         }
+    }
+
+    /// Whether each attendant serves an operator, so that others may wait.
+    pub fn is_crowded(&self) -> bool {
+        self.busy.load(SeqCst) >= ATTENDANTS as u64
     }
 }
 

@@ -50,6 +50,10 @@ pub struct Counts {
     pub taken_over: Count,
     /// Links that didn't greet in time.
     pub silent: Count,
+    /// Links whose names aren't listed.
+    pub unlisted: Count,
+    /// How often a worker waited before it handed in copies.
+    pub slowed: Count,
     /// How often decisions became durable.
     pub commits: Count,
     /// The number of a decision that is durable, and so are all before it.
@@ -64,6 +68,8 @@ impl Counts {
             dropped: Count::zero(),
             taken_over: Count::zero(),
             silent: Count::zero(),
+            unlisted: Count::zero(),
+            slowed: Count::zero(),
             commits: Count::zero(),
             durable: Highest::zero(),
         }

@@ -2,8 +2,7 @@
 ghost use Rattle.std.specs.Prelude.{◌≡◌, IfErr, IfOk, length};
 ghost use Rattle.lw_types.specs.declared.refusal.Refusal.TheVariants.{OutOfMemory};
 
-use crate::FrameName;
-use devices::{Device, slot_at};
+use devices::Device;
 use gateway_wire::{device_line, last_line};
 use lw_types::{Reception, Refusal};
 use session_core::{ClosedFrame, Moment};
@@ -34,23 +33,21 @@ impl LastUplinks {
         Ok(LastUplinks { by_slot })
     }
 
-    /// Notes a frame whose window was closed at this moment. If it was an accepted uplink, its
-    /// device is the one at the slot of its address. What was noted of a later moment stays, since
-    /// several threads note uplinks.
+    /// Notes a frame whose window was closed at this moment, if it was an accepted uplink. What was
+    /// noted of a later moment stays, since several threads note uplinks.
     pub fn note(&mut self, closed: &ClosedFrame, moment: Moment) {
-        if closed.refused.is_some() {
-            return;
-        }
-        let heard = &closed.heard;
-        let FrameName::Data { dev_addr, .. } = FrameName::of(heard.phy_payload.as_slice()) else {
+        let ClosedFrame::Decided(decided) = closed else {
             return;
         };
-        if let Some(last) = self.by_slot.get_mut(slot_at(dev_addr) as usize)
+        if decided.is_join_request {
+            return;
+        }
+        if let Some(last) = self.by_slot.get_mut(decided.slot as usize)
             && last.is_none_or(|it| it.moment.get() <= moment.get())
         {
             *last = Some(LastUplink {
                 moment,
-                reception: heard.hearings.best().reception,
+                reception: decided.best.reception,
             });
         }
     }

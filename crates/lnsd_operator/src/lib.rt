@@ -16,7 +16,7 @@ mod watching;
 pub use control::{ATTENDANTS, ControlSocket};
 pub use counts::{Count, Counts, Highest};
 pub use disk_times::DiskTimes;
-pub use fault::ServeFault;
+pub use fault::{NameListFault, ServeFault};
 pub use frame_name::FrameName;
 pub use last_uplinks::LastUplinks;
 pub use orders::Order;

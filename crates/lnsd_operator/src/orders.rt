@@ -13,6 +13,8 @@ pub enum Order {
     Devices,
     /// Send a line for each event, until the life ends.
     Watch,
+    /// Read the list of the names that may greet again.
+    Reload,
 }
 
 impl Order {
@@ -25,6 +27,7 @@ impl Order {
             Order::Status => "status",
             Order::Devices => "devices",
             Order::Watch => "watch",
+            Order::Reload => "reload",
         }
     }
 
@@ -38,6 +41,7 @@ impl Order {
             "status" => Some(Order::Status),
             "devices" => Some(Order::Devices),
             "watch" => Some(Order::Watch),
+            "reload" => Some(Order::Reload),
             _ => None,
         }
     }

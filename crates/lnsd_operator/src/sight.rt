@@ -30,6 +30,8 @@ pub enum Sight {
     Faulted(Option<Recipient>),
     /// A link didn't greet in time.
     Silent,
+    /// A link greeted with a name that isn't listed, and is closed.
+    Unlisted(Recipient),
     /// This number of effects for this name weren't sent.
     Dropped(Recipient, u64),
     /// The whole table was written to the disk.
@@ -50,10 +52,11 @@ impl Sight {
 
     /// The event of a frame that was refused when its window was closed; `None` if it was decided.
     pub fn of_closed(closed: &ClosedFrame) -> Option<Self> {
-        let refusal = closed.refused?;
-        let heard = &closed.heard;
+        let ClosedFrame::Refused { heard, refusal } = closed else {
+            return None;
+        };
         Some(Sight::Refused {
-            refusal,
+            refusal: *refusal,
             frame: FrameName::of(heard.phy_payload.as_slice()),
             reception: heard.hearings.best().reception,
         })
@@ -92,6 +95,7 @@ impl Sight {
             Sight::Faulted(Some(name)) => link_line(alloc, "faulted", name),
             Sight::Faulted(None) => String::from_str(alloc, "faulted"),
             Sight::Silent => String::from_str(alloc, "silent"),
+            Sight::Unlisted(name) => link_line(alloc, "unlisted", name),
             Sight::Dropped(name, count) => {
                 let name = name_words(alloc, name)?;
                 format!(in alloc; "dropped {name} {count}")

@@ -4,13 +4,8 @@ ghost use Rattle.disk.specs.Outlook.{HasCause, IsForeseen};
 
 use crate::DiskTimes;
 use disk::{DeviceFailed, Disk};
-use gate_log::OPEN;
 use std::time::{Clock, Duration, Instant};
-use store_layout::Superblock;
-
-// Where the first area of a store begins. Both areas have the same length, and each begins with a
-// gate.
-const FIRST_AREA: u64 = Superblock::LEN as u64;
+use store_layout::opens_area;
 
 /// A disk that is timed by a clock. Its calls are those of the disk from which it was made.
 #[derive(Drop)]
@@ -26,13 +21,6 @@ impl<'x, D: Disk + Drop, C: Clock + Drop> TimedDisk<'x, D, C> {
         ensures { result.disk ≡ disk }
     {
         TimedDisk { disk, clock, times }
-    }
-
-    // Whether this write opens the gate of an area, as the last but one call of a checkpoint does.
-    fn opens_area(&self, at: u64, bytes: &[u8]) -> bool {
-        let area_len = self.disk.len().saturating_sub(FIRST_AREA) / 2;
-        bytes == [OPEN].as_slice()
-            && (at == FIRST_AREA || at == FIRST_AREA.saturating_add(area_len))
     }
 
     // The time since then, or 0 if the clock can't be read.
@@ -62,7 +50,7 @@ impl<'x, D: Disk + Drop, C: Clock + Drop> Disk for TimedDisk<'x, D, C> {
     }
 
     fn write_at(&mut self, at: u64, bytes: &[u8]) -> Result<(), DeviceFailed> {
-        if self.opens_area(at, bytes) {
+        if opens_area(self.disk.len(), at, bytes) {
             self.times.add_checkpoint();
         }
         self.disk.write_at(at, bytes)

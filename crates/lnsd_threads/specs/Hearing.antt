@@ -1,5 +1,6 @@
 -- What happens to the messages of a link.
-use Rattle.std.specs.Prelude.{◌≡◌, ◌⊎◌, ◌∷◌, ◌++◌, ℕ, List, [], Option, Some, None}
+use Rattle.std.specs.Prelude.{◌≡◌, ◌⊎◌, ◌∷◌, ◌++◌, ℕ, Bool, true, false, List, [], Option, Some}
+use Rattle.std.specs.Prelude.{None, count_by}
 use Rattle.lw_types.specs.declared.refusal.Refusal.{Refusal}
 use Rattle.lw_types.specs.declared.refusal.Refusal.TheVariants.{BadMessage, OutOfMemory}
 use Rattle.gateway_wire.specs.Request.{IsRequestLine}
@@ -8,6 +9,8 @@ use Rattle.link_messages.specs.declared.message.Message.{Message}
 use Rattle.link_messages.specs.declared.message.Message.TheVariants.{Copy, Line}
 use Rattle.link_messages.specs.declared.message.Peer.{Peer}
 use Rattle.link_messages.specs.declared.message.Peer.TheVariants.{Application}
+use Rattle.lnsd_links.specs.Allowed.{IsPaid}
+use Rattle.lnsd_links.specs.declared.allowance.Allowance.{Allowance}
 use Rattle.rtrb.specs.Ring.{sent, known_free}
 use Rattle.rtrb.specs.declared.producer.Producer.{Producer}
 use Rattle.session_core.specs.Seats.{SeatState, HasMade}
@@ -50,6 +53,20 @@ IsOneHeard (Some (Application application)) (Line line) seat told new_seat new_t
     (refused : Option Refusal) × (IsAnswered application line seat new_seat refused
     × IsTold refused told new_told)
 IsOneHeard peer message seat told new_seat new_told = (new_seat ≡ seat) × (new_told ≡ told)
+
+-- how many of these messages are copies
+abbrev pub is_copy : Message → Bool
+is_copy (Copy copy) = true
+is_copy message = false
+
+abbrev pub copies_in : List Message → ℕ
+copies_in messages = count_by is_copy messages
+
+-- at some moment this number of copies is paid for, if the link is limited
+abbrev pub ArePaidFor : ℕ → Option Allowance → Option Allowance → Type 0
+ArePaidFor copies None new = new ≡ None
+ArePaidFor copies (Some old) new =
+    (moment : ℕ) × ((left : Allowance) × ((new ≡ Some left) × IsPaid copies moment old left))
 
 -- messages are handled, one after another
 abbrev pub AreHeard : {A P : Type 0} → Option Peer → List Message → SeatState

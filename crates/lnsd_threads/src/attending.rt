@@ -6,7 +6,7 @@ use crate::context::Context;
 use crate::server::LiveServer;
 use crate::status::{devices_text, status_text};
 use crate::{Gate, LifeClock};
-use lnsd_links::{LifeStage, is_passing};
+use lnsd_links::{LifeStage, NameSource, is_passing, read_names};
 use lnsd_operator::{ControlSocket, Order, Waiting, Watch};
 use lw_types::Refusal;
 use session_core::Books;
@@ -22,12 +22,24 @@ pub const WATCHING: &str = "watching\n";
 /// Sent when all places for watchers are taken.
 pub const BUSY: &str = "busy\n";
 
+/// Sent when the list of the names that may greet was read again.
+pub const RELOADED: &str = "reloaded\n";
+
+/// Sent in answer to `reload` if there is no such list.
+pub const NO_NAMES: &str = "no names\n";
+
 // The empty line after the last line of the counts or of the devices. An answer without it was cut
 // off.
 const WHOLE: &str = "\n";
 
-// How long an operator may send nothing, or read nothing, in seconds.
+// How long an operator may read nothing, in seconds.
 const PATIENCE: u64 = 2;
+
+// How long one read of an order waits, in milliseconds. An operator who has sent nothing meanwhile
+// is given up if each attendant has an operator, and otherwise after this number of such reads.
+const QUIET: u64 = 100;
+
+const QUIET_READS: u32 = 20;
 
 // How long one write to an operator who watches waits for room, in seconds.
 const WATCHER_WAIT: u64 = 1;
@@ -44,15 +56,17 @@ const LONGEST_ORDER: usize = 16;
 
 /// An attendant of a control socket.
 #[derive(Drop)]
-pub struct Attendant<'x, B: Books, R: Wait, G: Gate, C: LifeClock> {
+pub struct Attendant<'x, B: Books, R: Wait, G: Gate, C: LifeClock, S: NameSource> {
     pub context: &'x Context<'x, R, G, C>,
+    // Where the list of the names that may greet is read, if there is one.
+    pub names: Option<&'x S>,
     pub server: &'x LiveServer<B>,
     pub control: &'x ControlSocket,
     // From 0.
     pub number: usize,
 }
 
-impl<'x, B: Books, R: Wait, G: Gate, C: LifeClock> Attendant<'x, B, R, G, C> {
+impl<'x, B: Books, R: Wait, G: Gate, C: LifeClock, S: NameSource> Attendant<'x, B, R, G, C, S> {
     /// Serves one operator after another, until the life is over.
     pub fn run(self) {
         for _ in self.context.rt.forever() {
@@ -76,11 +90,11 @@ impl<'x, B: Books, R: Wait, G: Gate, C: LifeClock> Attendant<'x, B, R, G, C> {
         let Ok(shown) = stream.try_clone() else {
             return;
         };
-        self.control.show(self.context.rt, self.number, Some(shown));
+        self.control.show(self.context.rt, self.number, shown);
         if !self.is_over() {
             self.obey(stream);
         }
-        self.control.show(self.context.rt, self.number, None);
+        self.control.hide(self.context.rt, self.number);
     }
 
     // An operator whose line is no order, or who doesn't read the answer, is given up.
@@ -90,7 +104,7 @@ impl<'x, B: Books, R: Wait, G: Gate, C: LifeClock> Attendant<'x, B, R, G, C> {
             self.context.alloc,
             self.context.clock.now(),
         );
-        match read_order(&stream) {
+        match self.read_order(&stream) {
             Some(Order::Stop) => {
                 self.control.keep_waiting(rt, stream);
                 self.server.end(rt);
@@ -104,7 +118,52 @@ impl<'x, B: Books, R: Wait, G: Gate, C: LifeClock> Attendant<'x, B, R, G, C> {
                 tell_text(&stream, text);
             }
             Some(Order::Watch) => self.receive(&stream),
+            Some(Order::Reload) => tell_text(&stream, self.reload()),
             None => {}
+        }
+    }
+
+    // The order of an operator, up to a newline.
+    fn read_order(&self, stream: &UnixStream) -> Option<Order> {
+        let mut stream = stream;
+        stream
+            .set_read_timeout(Some(Duration::from_millis(QUIET)))
+            .ok()?;
+        let mut line = [0u8; LONGEST_ORDER];
+        let mut len: usize = 0;
+        let mut quiet: u32 = 0;
+        for _ in 0..QUIET_READS + LONGEST_ORDER as u32 {
+            match stream.read(line.get_mut(len..)?) {
+                Ok(0) => return None,
+                Ok(count) => len = len.saturating_add(count),
+                Err(error) if is_passing(error.kind()) => {
+                    quiet = quiet.saturating_add(1);
+                    if quiet >= QUIET_READS || self.control.is_crowded() {
+                        return None;
+                    }
+                }
+                Err(_) => return None,
+            }
+            if let Some(word) = line.get(..len)?.strip_suffix(b"\n") {
+                return order_of(word);
+            }
+        }
+        None
+    }
+
+    // Reads the list of the names that may greet again, and returns the answer. If that fails, the
+    // list stays as it was.
+    fn reload(&self) -> Result<String, Refusal> {
+        let alloc = self.context.alloc;
+        let Some(source) = self.names else {
+            return Ok(String::from_str(alloc, NO_NAMES)?);
+        };
+        match read_names(source, self.server.links.len()) {
+            Ok(list) => {
+                self.server.relist(self.context.rt, list);
+                Ok(String::from_str(alloc, RELOADED)?)
+            }
+            Err(fault) => Ok(format!(in alloc; "{fault}\n")?),
         }
     }
 
@@ -195,28 +254,6 @@ fn has_gone(stream: &UnixStream) -> bool {
         Ok(_) => true,
         Err(error) => !is_passing(error.kind()),
     }
-}
-
-// The order of an operator, up to a newline.
-fn read_order(stream: &UnixStream) -> Option<Order> {
-    let mut stream = stream;
-    stream
-        .set_read_timeout(Some(Duration::from_secs(PATIENCE)))
-        .ok()?;
-    let mut line = [0u8; LONGEST_ORDER];
-    let mut len: usize = 0;
-    for _ in 0..LONGEST_ORDER {
-        let rest = line.get_mut(len..)?;
-        let count = stream.read(rest).ok()?;
-        if count == 0 {
-            return None;
-        }
-        len = len.saturating_add(count);
-        if let Some(word) = line.get(..len)?.strip_suffix(b"\n") {
-            return order_of(word);
-        }
-    }
-    None
 }
 
 // The order of this word, if there is one.

@@ -1,21 +1,27 @@
 // The worker of a place, which takes one link after another.
-ghost use Rattle.std.specs.Prelude.{◌≡◌, ◌-◌, IfSome, IsTrue, None, Some, max, option_map};
-ghost use Rattle.lnsd_links.specs.Linked.{IsHeld};
+ghost use Rattle.std.specs.Prelude.{◌≡◌, ◌<◌, ◌+◌, ◌-◌, ◌/◌, ◌↔◌, ℕ, Err, IfOk, IfSome, IsOk};
+ghost use Rattle.std.specs.Prelude.{IsTrue, None, Some, cond, false, max, option_map};
+ghost use Rattle.lnsd_links.specs.Linked.{IsHeld, is_listed, may_greet, may_take_over};
+ghost use Rattle.lnsd_links.specs.declared.names.Ungranted.TheVariants.{Unlisted};
+ghost use Rattle.lnsd_links.specs.declared.allowance.CopyRate.TheVariants.{PerSecond, Unlimited};
+ghost use Rattle.lnsd_links.specs.declared.link.LeftLink.{LeftLink};
+ghost use Rattle.lnsd_threads.specs.declared.hosting.Farewell.TheVariants.{Left};
 ghost use Rattle.lnsd_threads.specs.Hearing.{CameWithGreeting};
 ghost use Rattle.lnsd_threads.specs.Named.{IsFarewell, peer_name};
 
 use crate::lasting::Lasting;
 use crate::reading::{Incoming, PIECE, Worker, read_some, recipient_of};
-use crate::threads::start;
+use crate::sending::start_sender;
 use crate::{Gate, LifeClock, moved_on};
 use gateway_wire::Recipient;
 use link_messages::{Fed, Feeder};
 use lnsd_links::{
-    Call, Directory, Ending, HeldName, HostSender, LeftName, PLACES, drop_all, set_options,
+    Allowance, ClosedLink, Directory, Ending, GreetedLink, HeldName, HostSender, LeftLink, Link,
+    PLACES, Policy, Ungranted, drop_all, set_options,
 };
 use lnsd_operator::Sight;
 use lw_types::Refusal;
-use rtrb::{Consumer, RingBuffer};
+use rtrb::{Consumer, Producer, RingBuffer};
 use session_core::{Books, Moment, Seat};
 use std::net::TcpStream;
 use std::sync::Wait;
@@ -26,6 +32,10 @@ use std::time::Duration;
 // How long a read waits after that time is over, in milliseconds: the shortest time that a read may
 // wait.
 const SHORTEST_WAIT: u64 = 1;
+
+// After how many milliseconds a worker looks again how long its link has to greet, if that may get
+// shorter.
+const LOOK_WAIT: u64 = 20;
 
 // The pause after a failed accept, in seconds. An accept fails if the process has no descriptors
 // left, or no memory.
@@ -42,7 +52,7 @@ struct Greeted {
 /// what is still to be sent, since the life ends or keeps its links.
 #[derive(Clone, Copy)]
 enum Farewell {
-    Left(LeftName),
+    Left(LeftLink),
     Kept(Ending),
     Stays(Lasting),
 }
@@ -98,7 +108,10 @@ impl<'x, B: Books, R: Threads + Wait + Sync, G: Gate, C: LifeClock> Worker<'x, B
     fn welcome(&mut self, stream: TcpStream) {
         let context = self.context;
         self.feeder = Feeder::new(context.alloc);
-        let Some(greeted) = self.hear_greeting(&stream) else {
+        self.server.signals.count_stranger();
+        let greeted = self.handle_greeting(&stream);
+        self.server.signals.count_known();
+        let Some(greeted) = greeted else {
             return;
         };
         // each link has its own ring of refusals, so that no refusal goes to the next link; if
@@ -108,10 +121,25 @@ impl<'x, B: Books, R: Threads + Wait + Sync, G: Gate, C: LifeClock> Worker<'x, B
         };
         let name = greeted.name;
         if let Some(held) = self.take_over(&name) {
-            self.refusals = refused;
+            self.begin_link(refused);
             let _ = self.converse(stream, greeted, refusals, held);
             self.drop_rest(name);
         }
+    }
+
+    // Gives the link its own ring of refusals, and an allowance of which nothing was earned yet.
+    fn begin_link(&mut self, refused: Producer<Refusal>)
+        ensures same { self.new ≡ record self.old
+            { refusals = refused; allowance = self.new.allowance } }
+        ensures unlimited { self.old.server.now.policy.copies ≡ Unlimited
+            → self.new.allowance ≡ None }
+        ensures limited { (copies : ℕ) (burst : ℕ)
+            → self.old.server.now.policy.copies ≡ PerSecond copies burst
+            → (now : ℕ) × (self.new.allowance ≡ Some (record
+            { per_second = copies; burst = burst; level = 0; at = now })) }
+    {
+        self.refusals = refused;
+        self.allowance = Allowance::new(self.server.policy.copies, self.context.clock.now());
     }
 
     fn converse(
@@ -125,14 +153,14 @@ impl<'x, B: Books, R: Threads + Wait + Sync, G: Gate, C: LifeClock> Worker<'x, B
     {
         let Greeted { name, fed } = greeted;
         let context = self.context;
-        let call = Call { stream, name };
+        let greeted = GreetedLink { stream, name };
         let worker = &mut *self;
         thread::scope(
             thread::scope_env(),
             context.rt,
             |scope|
                 ensures { IsFarewell held result }
-            { hold(scope, worker, &call, fed, refusals, held) },
+            { hold(scope, worker, &greeted, fed, refusals, held) },
         )
     }
 
@@ -154,7 +182,7 @@ impl<'x, B: Books, R: Threads + Wait + Sync, G: Gate, C: LifeClock> Worker<'x, B
 fn hold<'s, 'x: 's, E, B: Books, R: Threads + Wait + Sync, G: Gate, C: LifeClock>(
     scope: &Scope<'s, E>,
     worker: &mut Worker<'x, B, R, G, C>,
-    call: &'s Call,
+    greeted: &'s GreetedLink,
     fed: Fed,
     refusals: Consumer<Refusal>,
     held: HeldName,
@@ -167,35 +195,42 @@ fn hold<'s, 'x: 's, E, B: Books, R: Threads + Wait + Sync, G: Gate, C: LifeClock
         alloc: context.alloc,
         signals: &worker.server.signals,
         watch: worker.server.watch(),
-        lines: worker.server.lines_of(&call.name),
+        lines: worker.server.lines_of(&greeted.name),
         links: worker.server.links.as_slice(),
         link: worker.link,
-        call,
+        greeted,
     };
-    let name = format!(in context.alloc; "link-{number}-out", number = worker.number);
-    let is_sent = start(scope, name, move || sender.run(refusals)).is_some();
-    if is_sent && worker.hear_all(fed) {
-        worker.read(&call.stream);
+    let sending = start_sender(scope, worker.number, sender, refusals);
+    if let Some(sending) = &sending
+        && worker.handle_all(fed)
+    {
+        worker.read(&greeted.stream, sending);
     }
-    worker.end_link(held, is_sent)
+    worker.end_link(held, sending.is_some())
 }
 
-// Gives a link a name: one that another link has only if names are taken over. Returns the name
-// that the link holds then, and the link that had it.
-fn named(
+// Gives a link a name that is listed: one that another link has only if names are taken over. Then
+// the other link is closed. Returns the name that the link holds then, and that another link was
+// closed.
+fn named<R: Wait>(
+    rt: &R,
     directory: &mut Directory,
+    links: &[Link],
     name: &Recipient,
     link: usize,
     takes_over: bool,
-) -> Option<(HeldName, Option<usize>)>
-    ensures { IfSome result (λ named. IsHeld name.now link named.0) }
+) -> Result<(HeldName, Option<ClosedLink>), Ungranted>
+    ensures held { IfOk result (λ named. IsHeld name.now link named.0) }
+    ensures granted { IsOk result ↔ IsTrue (cond takes_over
+        (may_take_over directory.old name.now) (may_greet directory.old name.now)) }
+    ensures unlisted { (result ≡ Err Unlisted) ↔ (is_listed directory.old name.now ≡ false) }
 {
     if takes_over {
-        return directory.take_over(name, link).ok();
+        return directory.take_over(rt, links, name, link);
     }
     match directory.greet(name, link) {
-        Some(held) => Some((held, None)),
-        None => None,
+        Ok(held) => Ok((held, None)),
+        Err(ungranted) => Err(ungranted),
     }
 }
 
@@ -207,10 +242,57 @@ fn wait_until(now: Moment, until: Moment) -> u64
     until.get().saturating_sub(now.get()).max(SHORTEST_WAIT)
 }
 
+// How long a link has to greet, in milliseconds, if that is limited. `crowd` is the number of links
+// that haven't greeted, if all places are taken.
+fn greeting_time(policy: &Policy, crowd: Option<u64>) -> Option<u64>
+    ensures calm { crowd ≡ None → result ≡ policy.now.greeting_wait }
+    ensures alike { policy.now.crowded_wait ≡ None → result ≡ policy.now.greeting_wait }
+    ensures crowded { (wait : ℕ) (links : ℕ) → policy.now.crowded_wait ≡ Some wait
+        → crowd ≡ Some links → result ≡ Some (wait / max links 1) }
+{
+    match (policy.crowded_wait, crowd) {
+        (Some(wait), Some(crowd)) => Some(wait / crowd.max(1)),
+        _ => policy.greeting_wait,
+    }
+}
+
+// A read of a link that hasn't greeted.
+#[derive(Clone, Copy)]
+struct Look {
+    // How long it waits, in milliseconds, if that is limited.
+    wait: Option<u64>,
+    // If nothing came meanwhile, the link's time is over.
+    is_last: bool,
+}
+
+impl Look {
+    // The read of a link whose time ends at this moment, if it does. If the time may get shorter
+    // meanwhile, the read waits only until that is to be looked at again.
+    fn new(policy: &Policy, now: Moment, until: Option<Moment>) -> Self
+        ensures last { IsTrue result.is_last
+            → result.wait ≡ option_map (λ moment. max (moment - now) 1) until }
+        ensures alike { policy.now.crowded_wait ≡ None → IsTrue result.is_last }
+        ensures short { result.is_last ≡ false
+            → (result.wait ≡ Some 20) × IfSome until (λ moment. now + 20 < moment) }
+    {
+        let wait = until.map(|until| wait_until(now, until));
+        match (policy.crowded_wait, wait) {
+            (Some(_), Some(wait)) if wait > LOOK_WAIT => Look {
+                wait: Some(LOOK_WAIT),
+                is_last: false,
+            },
+            _ => Look {
+                wait,
+                is_last: true,
+            },
+        }
+    }
+}
+
 impl<'x, B: Books, R: Wait, G: Gate, C: LifeClock> Worker<'x, B, R, G, C> {
     // Reads until the peer has greeted. `None` if nothing more has come when its time is over, if
     // it sends something else, or if it has gone.
-    fn hear_greeting(&mut self, stream: &TcpStream) -> Option<Greeted>
+    fn handle_greeting(&mut self, stream: &TcpStream) -> Option<Greeted>
         ensures named { IfSome result
             (λ greeted. option_map peer_name self.new.feeder.peer ≡ Some greeted.name) }
         ensures fed { self.old.feeder.peer ≡ None → IfSome result
@@ -218,15 +300,10 @@ impl<'x, B: Books, R: Wait, G: Gate, C: LifeClock> Worker<'x, B, R, G, C> {
             self.new.feeder) }
         ensures same { self.new ≡ record self.old { feeder = self.new.feeder } }
     {
-        let until = self.greeting_end();
+        let since = self.context.clock.now();
         let mut buffer = [0u8; PIECE];
         for _ in self.context.rt.forever() {
-            let incoming = if self.limit_wait(stream, &until) {
-                read_some(stream, &mut buffer)
-            } else {
-                Incoming::Late
-            };
-            match incoming {
+            match self.next_piece(stream, since, &mut buffer) {
                 Incoming::Nothing => {}
                 Incoming::Late => {
                     self.server.signals.counts.silent.add(1);
@@ -257,22 +334,29 @@ impl<'x, B: Books, R: Wait, G: Gate, C: LifeClock> Worker<'x, B, R, G, C> {
         None
     }
 
-    // Until when a link has to greet that comes now, if its time is limited.
-    fn greeting_end(&self) -> Option<Moment> {
-        let wait = self.server.policy.greeting_wait?;
-        Some(moved_on(self.context.clock.now(), wait))
+    // The next bytes of a link that came at this moment and hasn't greeted; `Late` if its time is
+    // over.
+    fn next_piece(&self, stream: &TcpStream, since: Moment, buffer: &mut [u8]) -> Incoming {
+        let look = self.look(since);
+        if let Some(wait) = look.wait
+            && stream
+                .set_read_timeout(Some(Duration::from_millis(wait)))
+                .is_err()
+        {
+            return Incoming::Late;
+        }
+        match read_some(stream, buffer) {
+            Incoming::Late if !look.is_last => Incoming::Nothing,
+            incoming => incoming,
+        }
     }
 
-    // Limits how long reads wait, up to this moment, if there is one. Returns whether that can be
-    // done.
-    fn limit_wait(&self, stream: &TcpStream, until: &Option<Moment>) -> bool {
-        let Some(until) = until else {
-            return true;
-        };
-        let wait = wait_until(self.context.clock.now(), *until);
-        stream
-            .set_read_timeout(Some(Duration::from_millis(wait)))
-            .is_ok()
+    // How long the next read of a link waits that came at this moment and hasn't greeted.
+    fn look(&self, since: Moment) -> Look {
+        let policy = &self.server.policy;
+        let now = self.context.clock.now();
+        let time = greeting_time(policy, self.server.signals.crowd());
+        Look::new(policy, now, time.map(|time| moved_on(since, time)))
     }
 
     // Gives the link its name, and closes the link that had it, if names are taken over. The
@@ -283,16 +367,23 @@ impl<'x, B: Books, R: Wait, G: Gate, C: LifeClock> Worker<'x, B, R, G, C> {
         ensures held { IfSome result (IsHeld name.now self.now.number) }
     {
         let rt = self.context.rt;
-        let mut directory = self.server.directory.lock(rt);
+        let links = self.server.links.as_slice();
         let takes_over = self.server.policy.takes_over;
-        let Some((held, was)) = named(&mut directory, name, self.number, takes_over) else {
-            self.count_fault();
-            return None;
-        };
-        if let Some(older) = was {
-            if let Some(link) = self.server.links.get(older) {
-                link.take(rt);
+        let mut directory = self.server.directory.lock(rt);
+        let named = named(rt, &mut directory, links, name, self.number, takes_over);
+        let (held, taken) = match named {
+            Ok(given) => given,
+            Err(Ungranted::Unlisted) => {
+                self.server.signals.counts.unlisted.add(1);
+                self.server.tell(rt, Sight::Unlisted(*name));
+                return None;
             }
+            Err(_) => {
+                self.count_fault();
+                return None;
+            }
+        };
+        if taken.is_some() {
             self.server.signals.counts.taken_over.add(1);
             self.server.tell(rt, Sight::TakenOver(*name));
         }
@@ -300,9 +391,12 @@ impl<'x, B: Books, R: Wait, G: Gate, C: LifeClock> Worker<'x, B, R, G, C> {
         Some(held)
     }
 
-    // Ends the reading of the link. `is_sent` says whether it has a sender.
+    // Ends the reading of the link. `is_sent` says whether it has a sender. If the name was left,
+    // the sender of this very link knows that nothing more comes.
     fn end_link(&mut self, held: HeldName, is_sent: bool) -> Farewell
         ensures farewell { IsFarewell held result }
+        ensures over { (left : LeftLink) → result ≡ Left left
+            → left.place ≡ self.old.link.now.place }
         ensures ended { IsTrue self.old.has_ended → IsTrue self.new.has_ended }
         ensures same { self.new ≡ record self.old { has_ended = self.new.has_ended } }
     {
@@ -318,10 +412,10 @@ impl<'x, B: Books, R: Wait, G: Gate, C: LifeClock> Worker<'x, B, R, G, C> {
         let mut directory = self.server.directory.lock(rt);
         let left = directory.leave(held);
         drop(directory);
-        self.link.set_over();
+        let over = self.link.set_over(left);
         if left.is_free() {
             self.server.tell(rt, Sight::Ended(left.name()));
         }
-        Farewell::Left(left)
+        Farewell::Left(over)
     }
 }

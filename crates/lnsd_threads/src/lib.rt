@@ -12,11 +12,12 @@ mod lasting;
 mod moments;
 mod observing;
 mod reading;
+mod sending;
 mod server;
 mod status;
 mod threads;
 
-pub use attending::{Attendant, BUSY, WATCHING};
+pub use attending::{Attendant, BUSY, NO_NAMES, RELOADED, WATCHING};
 pub use closing::Closer;
 pub use context::Context;
 pub use gate::{Gate, NobodyTold, OnBegun, OpenGate};

@@ -41,7 +41,7 @@ impl<B: Books> LiveServer<B> {
     ) -> Turn
         ensures share { HasMade seat.old seat.new moment (call_kind_of event) result }
     {
-        let Handled { turn, closed } = self.sessions.handle(rt, seat, moment, event);
+        let Handled { turn, closed, .. } = self.sessions.handle(rt, seat, moment, event);
         self.tell_closed(rt, moment, closed);
         turn
     }

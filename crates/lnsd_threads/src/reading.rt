@@ -1,10 +1,11 @@
 // A worker, which reads a link and hands in what is sent on it.
-ghost use Rattle.std.specs.Prelude.{◌≡◌, ◌<◌, ◌+◌, ◌^◌, ◌↔◌, ◌++◌, ℕ, [], IfSome, IsTrue, List};
-ghost use Rattle.std.specs.Prelude.{None, Some, false, true};
+ghost use Rattle.std.specs.Prelude.{◌≡◌, ◌<◌, ◌+◌, ◌^◌, ◌↔◌, ◌++◌, ◌⊎◌, ℕ, [], IfSome, IsTrue};
+ghost use Rattle.std.specs.Prelude.{List, None, Some, false, true};
 ghost use Rattle.link_messages.specs.Feeding.{Feeds, fault_in, new_feed};
 ghost use Rattle.link_messages.specs.declared.message.Message.TheVariants as said;
 ghost use Rattle.link_messages.specs.declared.message.Peer.TheVariants as peers;
-ghost use Rattle.lnsd_threads.specs.Hearing.{AreHeard, IsAnswered, IsOneHeard, IsTold};
+ghost use Rattle.lnsd_threads.specs.Hearing.{copies_in, AreHeard, ArePaidFor, IsAnswered};
+ghost use Rattle.lnsd_threads.specs.Hearing.{IsOneHeard, IsTold};
 ghost use Rattle.lnsd_threads.specs.Named.{peer_name};
 ghost use Rattle.lw_types.specs.declared.identifiers.Eui.{Eui};
 ghost use Rattle.session_core.specs.Seats.{HasMade};
@@ -12,22 +13,28 @@ ghost use Rattle.session_core.specs.declared.event.CallKind.TheVariants.{Asked, 
 ghost use Rattle.session_core.specs.declared.turn.Turn.{Turn};
 
 use crate::context::Context;
+use crate::sending::Sending;
 use crate::server::LiveServer;
-use crate::{Gate, LifeClock};
+use crate::{Gate, LifeClock, moved_on};
 use devices::Application;
 use gateway_wire::{Recipient, Request, read_line};
 use link_messages::{Fed, Feeder, Line, Message, Peer};
-use lnsd_links::Link;
+use lnsd_links::{Allowance, Link};
 use lnsd_operator::{FrameName, Sight};
 use lw_types::{FrameCopy, Refusal};
 use rtrb::Producer;
-use session_core::{Books, Event, Seat, Turn};
+use session_core::{Books, Event, Moment, Seat, Turn};
 use std::io::{ErrorKind, Read};
 use std::net::TcpStream;
 use std::sync::Wait;
 
-// The most bytes that are read at a time.
+// The most bytes that are read at a time. They are fewer copies than a limited link may send at
+// once: a copy has 24 bytes or more.
 pub(crate) const PIECE: usize = 8192;
+
+// The longest wait before copies are handed in, in milliseconds. After that the worker checks
+// whether the link is to be read on.
+const LONGEST_PAUSE: u64 = 200;
 
 /// A link's worker.
 #[derive(Drop)]
@@ -42,6 +49,8 @@ pub struct Worker<'x, B: Books, R: Wait, G: Gate, C: LifeClock> {
     pub feeder: Feeder,
     pub seat: Seat<B>,
     pub refusals: Producer<Refusal>,
+    // The copies that may come on the link, if they are limited.
+    pub allowance: Option<Allowance>,
     // The worker hands nothing in any more.
     pub has_ended: bool,
 }
@@ -79,6 +88,19 @@ fn asking(peer: Option<Peer>) -> Option<Application>
     }
 }
 
+// How many of these messages are copies.
+fn copies_in(messages: &Vec<Message>) -> u64
+    ensures { result ≡ copies_in messages.now.items }
+{
+    let mut copies = 0;
+    for message in messages {
+        if let Message::Copy(_) = message {
+            copies += 1;
+        }
+    }
+    copies
+}
+
 // Whether a turn has decisions.
 fn has_decided(turn: &Turn) -> bool
     ensures { IsTrue result ↔ (turn.now.from < turn.now.to) }
@@ -106,6 +128,7 @@ impl<'x, B: Books, R: Wait, G: Gate, C: LifeClock> Worker<'x, B, R, G, C> {
         seat: Seat<B>,
         refusals: Producer<Refusal>,
     ) -> Self
+        requires { link.now.place ≡ number }
         ensures { result ≡ record {
           context = context.entry;
           server = server.entry;
@@ -115,6 +138,7 @@ impl<'x, B: Books, R: Wait, G: Gate, C: LifeClock> Worker<'x, B, R, G, C> {
           feeder = new_feed;
           seat = seat;
           refusals = refusals;
+          allowance = None;
           has_ended = false;
         } }
     {
@@ -127,6 +151,7 @@ impl<'x, B: Books, R: Wait, G: Gate, C: LifeClock> Worker<'x, B, R, G, C> {
             feeder: Feeder::new(context.alloc),
             seat,
             refusals,
+            allowance: None,
             has_ended: false,
         }
     }
@@ -141,8 +166,8 @@ impl<'x, B: Books, R: Wait, G: Gate, C: LifeClock> Worker<'x, B, R, G, C> {
         }
     }
 
-    /// Reads a link until it sends nothing more or may not go on.
-    pub(crate) fn read(&mut self, stream: &TcpStream) {
+    /// Reads a link, which has a sender, until it sends nothing more or may not go on.
+    pub(crate) fn read(&mut self, stream: &TcpStream, _sending: &Sending) {
         let mut buffer = [0u8; PIECE];
         for _ in self.context.rt.forever() {
             match read_some(stream, &mut buffer) {
@@ -153,7 +178,7 @@ impl<'x, B: Books, R: Wait, G: Gate, C: LifeClock> Worker<'x, B, R, G, C> {
                 }
                 Incoming::Bytes(n) => {
                     let piece = buffer.get(..n).unwrap_or(&[]);
-                    if !self.hear_piece(piece) || self.is_closed() {
+                    if !self.handle_piece(piece) || self.is_closed() {
                         break;
                     }
                 }
@@ -182,38 +207,52 @@ impl<'x, B: Books, R: Wait, G: Gate, C: LifeClock> Worker<'x, B, R, G, C> {
     }
 
     // Whether the link is read on. Without memory it isn't, but that doesn't count as its fault.
-    fn hear_piece(&mut self, piece: &[u8]) -> bool
+    fn handle_piece(&mut self, piece: &[u8]) -> bool
         ensures heard { IsTrue result → (messages : List Message)
             × (Feeds self.old.feeder piece.now messages self.new.feeder
             × ((fault_in self.new.feeder.end ≡ None)
-            × AreHeard self.new.feeder.peer messages self.old.seat self.old.refusals
-            self.new.seat self.new.refusals)) }
+            × (AreHeard self.new.feeder.peer messages self.old.seat self.old.refusals
+            self.new.seat self.new.refusals
+            × ArePaidFor (copies_in messages) self.old.allowance self.new.allowance))) }
         ensures same { self.new ≡ record self.old {
           feeder = self.new.feeder;
           seat = self.new.seat;
           calls = self.new.calls;
           refusals = self.new.refusals;
+          allowance = self.new.allowance;
         } }
     {
         match self.feeder.feed(piece) {
-            Ok(fed) => self.hear_all(fed),
+            Ok(fed) => self.handle_all(fed),
             Err(_) => false,
         }
     }
 
-    /// Handles messages, and counts the fault after them. Returns whether the link is read on.
-    pub(crate) fn hear_all(&mut self, fed: Fed) -> bool
+    /// Pays for copies, handles the messages, and counts the fault after them. Returns whether the
+    /// link is read on. If the copies aren't paid for, no message is handled.
+    pub(crate) fn handle_all(&mut self, fed: Fed) -> bool
         ensures fault { IsTrue result → fed.fault ≡ None }
+        ensures paid { (self.new ≡ self.old)
+            ⊎ ArePaidFor (copies_in fed.messages.items) self.old.allowance self.new.allowance }
+        ensures whole { IsTrue result → ArePaidFor (copies_in fed.messages.items)
+            self.old.allowance self.new.allowance }
         ensures heard { (heard : List Message) × ((left : List Message)
             × ((fed.messages.items ≡ heard ++ left)
             × (AreHeard self.old.feeder.peer heard self.old.seat self.old.refusals
             self.new.seat self.new.refusals × (IsTrue result → left ≡ [])))) }
-        ensures same { self.new ≡ record self.old
-            { seat = self.new.seat; calls = self.new.calls; refusals = self.new.refusals } }
+        ensures same { self.new ≡ record self.old {
+          seat = self.new.seat;
+          calls = self.new.calls;
+          refusals = self.new.refusals;
+          allowance = self.new.allowance;
+        } }
     {
         let Fed { messages, fault } = fed;
+        if !self.pay(copies_in(&messages)) {
+            return false;
+        }
         for message in messages {
-            if !self.hear(message) {
+            if !self.handle_message(message) {
                 return false;
             }
         }
@@ -223,8 +262,47 @@ impl<'x, B: Books, R: Wait, G: Gate, C: LifeClock> Worker<'x, B, R, G, C> {
         fault.is_none()
     }
 
+    // Pays for copies before they are handed in, and waits until they may come. Returns false, and
+    // pays nothing, if the link is closed meanwhile, if the life ends and they may not come yet
+    // after one wait, or if they are more than may ever come at once.
+    fn pay(&mut self, copies: u64) -> bool
+        ensures paid { IsTrue result
+            → ArePaidFor copies self.old.allowance self.new.allowance }
+        ensures unpaid { result ≡ false → self.new ≡ self.old }
+        ensures same { self.new ≡ record self.old { allowance = self.new.allowance } }
+    {
+        let Some(mut allowance) = self.allowance else {
+            return true;
+        };
+        let mut has_waited = false;
+        for _ in self.context.rt.forever() {
+            let now = self.context.clock.now();
+            let Err(until) = allowance.pay(copies, now) else {
+                self.allowance = Some(allowance);
+                return true;
+            };
+            let may_come = now < until;
+            if !may_come || self.is_closed() || has_waited && self.server.signals.is_ending() {
+                return false;
+            }
+            if !has_waited {
+                self.server.signals.counts.slowed.add(1);
+            }
+            has_waited = true;
+            self.wait_until(until.min(moved_on(now, LONGEST_PAUSE)));
+        }
+        false
+    }
+
+    // Waits until this moment, or until the link is closed.
+    fn wait_until(&self, until: Moment) {
+        self.context
+            .clock
+            .wait(self.context.rt, &self.link.pause, until);
+    }
+
     // Handles a message. Returns whether the link is read on.
-    fn hear(&mut self, message: Message) -> bool
+    fn handle_message(&mut self, message: Message) -> bool
         ensures heard { IsOneHeard self.old.feeder.peer message self.old.seat self.old.refusals
             self.new.seat self.new.refusals }
         ensures same { self.new ≡ record self.old
@@ -234,18 +312,18 @@ impl<'x, B: Books, R: Wait, G: Gate, C: LifeClock> Worker<'x, B, R, G, C> {
             // the name was given before
             Message::Greeting(_) => true,
             Message::Copy(copy) => {
-                self.hear_copy(copy);
+                self.handle_copy(copy);
                 true
             }
             Message::Line(line) => {
-                self.hear_line(&line);
+                self.handle_line(&line);
                 true
             }
         }
     }
 
     // If the copy is refused, only the operators who watch learn of it.
-    fn hear_copy(&mut self, copy: FrameCopy)
+    fn handle_copy(&mut self, copy: FrameCopy)
         ensures counted { self.old.calls + 1 < 2 ^ 64 → self.new.calls ≡ self.old.calls + 1 }
         ensures heard { (moment : ℕ) × ((turn : Turn)
             × HasMade self.old.seat self.new.seat moment (Heard copy.reception.gateway) turn) }
@@ -275,7 +353,7 @@ impl<'x, B: Books, R: Wait, G: Gate, C: LifeClock> Worker<'x, B, R, G, C> {
     }
 
     // Answers an application's request: a refusal goes to the application.
-    fn hear_line(&mut self, line: &Line)
+    fn handle_line(&mut self, line: &Line)
         ensures gateway { (gateway : Eui) → self.old.feeder.peer ≡ Some (peers.Gateway gateway)
             → self.new ≡ self.old }
         ensures heard { IsOneHeard self.old.feeder.peer (said.Line line.now) self.old.seat

@@ -1,20 +1,22 @@
 // What the threads of a life share.
-ghost use Rattle.std.specs.Prelude.{◌≡◌, ℕ, IsSome, None, slice_get};
+ghost use Rattle.std.specs.Prelude.{◌≡◌, ℕ, IsSome, None, Some, length, slice_get};
 ghost use Rattle.std.specs.Option.{option_copied};
 ghost use Rattle.gateway_wire.specs.declared.recipient.Recipient.TheVariants as names;
+ghost use Rattle.lnsd_links.specs.declared.link.Link.{Link};
+ghost use Rattle.lnsd_links.specs.declared.rings.WaitingLines.{WaitingLines};
 ghost use Rattle.lw_types.specs.declared.identifiers.Eui.{Eui};
 
 use gateway_wire::Recipient;
-use lnsd_links::{Directory, Entrance, LifeStage, Link, Policy, Signals, WaitingLines, drop_all};
+use lnsd_links::{Directory, Entrance, LifeStage, Link, NameList, Policy, Signals, WaitingLines};
 use lnsd_operator::ControlSocket;
 use session_core::{Books, Shared};
 use std::sync::{Mutex, Wait};
 
 /// The links, the data behind locks, and the signals. No thread holds both locks at once, nor one
 /// of them while it reads, writes or syncs. While the directory is locked, a greeting closes an
-/// older link of its name, and sends an event to the operators who watch. This takes the locks of
-/// that link's socket and of the watchers' places; nothing else takes a lock while the directory is
-/// locked.
+/// older link of its name, and sends an event to the operators who watch; and a new list of names
+/// closes links. This takes the locks of these links' sockets and of the watchers' places; nothing
+/// else takes a lock while the directory is locked.
 #[derive(Drop)]
 pub struct LiveServer<B: Books> {
     pub links: Vec<Link>,
@@ -27,6 +29,11 @@ pub struct LiveServer<B: Books> {
     // For each application, the lines that wait for it, if lines wait.
     pub lines: Vec<WaitingLines>,
     pub signals: Signals,
+    ghost places: { (place : ℕ) (link : Link) → slice_get links.items place ≡ Some link
+        → link.place ≡ place },
+    ghost applications: { (application : ℕ) (waiting : WaitingLines)
+        → slice_get lines.items application ≡ Some waiting → waiting.application ≡ application },
+    ghost workers: { signals.workers ≡ length links.items },
 }
 
 impl<B: Books> LiveServer<B> {
@@ -49,6 +56,13 @@ impl<B: Books> LiveServer<B> {
         }
     }
 
+    /// Replaces the list of the names that may greet, and closes the links whose names aren't
+    /// listed any more.
+    pub(crate) fn relist<R: Wait>(&self, rt: &R, list: NameList) {
+        let links = self.links.as_slice();
+        self.directory.lock(rt).relist(rt, links, list);
+    }
+
     /// The lines that wait for an application, if applications have rings of their own.
     pub(crate) fn lines_of(&self, name: &Recipient) -> Option<&WaitingLines>
         ensures gateway { (gateway : Eui) → name.now ≡ names.Gateway gateway → result ≡ None }
@@ -64,9 +78,7 @@ impl<B: Books> LiveServer<B> {
     /// Drops the lines that wait for applications, since no link takes anything more.
     pub fn drop_lines<R: Wait>(&self, rt: &R) {
         for lines in &self.lines {
-            if let Some(inlet) = lines.lock(rt).as_mut() {
-                self.signals.counts.dropped.add(drop_all(inlet));
-            }
+            self.signals.counts.dropped.add(lines.drop_all(rt));
         }
     }
 

@@ -102,6 +102,8 @@ pub(crate) fn status_text<B: Books, R: Wait>(
         ("faulted", counts.faulted.get()),
         ("taken_over", counts.taken_over.get()),
         ("silent", counts.silent.get()),
+        ("unlisted", counts.unlisted.get()),
+        ("slowed", counts.slowed.get()),
     ]);
     if let Some(times) = times {
         lines.add_counts(&[

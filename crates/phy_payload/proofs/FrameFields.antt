@@ -157,15 +157,15 @@ head_field =
     both_field (Below (2 ^ 32)) (to_le_bytes w32) (le_at w32) (λ (x : ℕ × ℕ). (x.0 < 256) × (x.1 < 2 ^ 16)) (λ x. x.0 ∷ [] ++ to_le_bytes w16 x.1) (both byte_at (le_at w16)) u32_le_field
     (both_field (λ byte. byte < 256) (λ byte. byte ∷ []) byte_at (Below (2 ^ 16)) (to_le_bytes w16) (le_at w16) byte_field u16_le_field)
 
--- what was read as a message is all of the bytes
-pub message_takes : (bytes : List ℕ) (opts : ℕ) → IsBytes bytes → opts ≤ 15 → opts + length bytes ≤ 243
+-- what was read as a port payload is all of the bytes
+pub port_payload_takes : (bytes : List ℕ) (opts : ℕ) → IsBytes bytes → opts ≤ 15 → opts + length bytes ≤ 243
     → IfSome (port_payload_of bytes) IsPortPayload × (opts + frm_payload_len (port_payload_of bytes) ≤ 242) × (bytes ≡ port_and_payload (port_payload_of bytes))
-message_takes [] opts fits few le = (tt, omega arith, refl)
-message_takes (port ∷ payload) opts fits few le = ((fits 0, λ i. fits (suc i)), omega arith, refl)
+port_payload_takes [] opts fits few le = (tt, omega arith, refl)
+port_payload_takes (port ∷ payload) opts fits few le = ((fits 0, λ i. fits (suc i)), omega arith, refl)
 
-pub message_again : (sent : Option PortPayload) → port_payload_of (port_and_payload sent) ≡ sent
-message_again None = refl
-message_again (Some sent) = refl
+pub port_payload_again : (sent : Option PortPayload) → port_payload_of (port_and_payload sent) ≡ sent
+port_payload_again None = refl
+port_payload_again (Some sent) = refl
 
 -- what comes before the last four bytes, and these
 pub mic_takes : (bytes : List ℕ) (parts : List ℕ × Mic) → IsBytes bytes → mic_off bytes ≡ Some parts

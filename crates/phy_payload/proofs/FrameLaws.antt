@@ -20,14 +20,14 @@ use Rattle.phy_payload.specs.Frame.{data_type, f_ctrl, mhdr, port_and_payload, r
 use Rattle.phy_payload.specs.Reading.{accept_at, body_at, contents_at, control_of, data_at, fhdr_at, port_payload_of, mic_off, or_malformed, phy_at, request_at, ReadsFrame}
 use Rattle.byte_fields.specs.Reading.{◌>>=◌, front_at, whole}
 use Rattle.byte_fields.proofs.FieldLemmas.{IsBytes-after, bind_some, chosen_some, front_field, guard_some, some_is, whole_again, whole_takes}
-use Rattle.phy_payload.proofs.FrameFields.{control_again, control_byte, control_takes, dir_of, head_field, head_text, message_again, message_takes, mic_again, mic_takes, request_field, request_text, same_type, type_of}
+use Rattle.phy_payload.proofs.FrameFields.{control_again, control_byte, control_takes, dir_of, head_field, head_text, port_payload_again, port_payload_takes, mic_again, mic_takes, request_field, request_text, same_type, type_of}
 use Rattle.phy_payload.proofs.Lengths.{has_spelling}
 
 -- ---- data frames
 
 -- a data frame after its MHDR, before its MIC
 abbrev data_text : DataFrame → List ℕ
-data_text d = head_text (d.dev_addr.0, (f_ctrl d.control (length d.contents.f_opts), d.f_cnt)) ++ (d.contents.f_opts ++ port_and_payload d.contents.message)
+data_text d = head_text (d.dev_addr.0, (f_ctrl d.control (length d.contents.f_opts), d.f_cnt)) ++ (d.contents.f_opts ++ port_and_payload d.contents.port_payload)
 
 -- what was read is such a frame
 abbrev IsReadAs : Direction → Bool → List ℕ → DataFrame → Type 0
@@ -59,12 +59,12 @@ data_takes direction confirmed body d fits short e =
     let len_front : length front ≡ length (head_text t.0.0) + length rest = ap length head.1 ∙ length-append (head_text t.0.0) rest in
     let len_rest : length rest ≡ length opts + length sent = ap length cut.1 ∙ length-append opts sent in
     let len_body = split.3 in
-    let message = message_takes sent (length opts) last (omega arith) (omega arith) in
+    let port_payload = port_payload_takes sent (length opts) last (omega arith) (omega arith) in
     let made : DataFrame = record { confirmed = confirmed; dev_addr = record { 0 = addr }; control = control; f_cnt = cnt; contents = carried_contents opts (port_payload_of sent); mic = mic } in
     let whole_byte : byte ≡ f_ctrl control (length opts) = sym is_control.1 ∙ ap (f_ctrl control) (sym few) in
     let text : front ≡ data_text made =
-    head.1 ∙ ap (λ (b : ℕ). head_text (addr, (b, cnt)) ++ rest) whole_byte ∙ ap (λ (r : List ℕ). head_text (addr, (f_ctrl control (length opts), cnt)) ++ r) (cut.1 ∙ ap (λ (r : List ℕ). opts ++ r) message.2) in
-    let in_range : IsDataFrame made = record { dev_addr = head.0.0; f_cnt = head.0.1.1; contents = record { f_opts = (cut.0.0, omega arith); message = message.0; fits = message.1 }; mic = split.1 } in
+    head.1 ∙ ap (λ (b : ℕ). head_text (addr, (b, cnt)) ++ rest) whole_byte ∙ ap (λ (r : List ℕ). head_text (addr, (f_ctrl control (length opts), cnt)) ++ r) (cut.1 ∙ ap (λ (r : List ℕ). opts ++ r) port_payload.2) in
+    let in_range : IsDataFrame made = record { dev_addr = head.0.0; f_cnt = head.0.1.1; contents = record { f_opts = (cut.0.0, omega arith); port_payload = port_payload.0; fits = port_payload.1 }; mic = split.1 } in
     subst (IsReadAs direction confirmed body) (some_is made d v.2) (in_range, is_control.0, refl, split.2 ∙ ap (λ (f : List ℕ). f ++ mic.0) text)
 
 data_again : (d : DataFrame) → IsDataFrame d → data_at (dir_of d.control) d.confirmed (data_text d ++ d.mic.0) ≡ Some d
@@ -74,13 +74,13 @@ data_again d h =
     let few : length opts ≤ 15 = h.contents.f_opts.1 in
     let byte : ℕ = f_ctrl d.control (length opts) in
     let ctrl = control_byte d.control (length opts) few in
-    let rest = opts ++ port_and_payload d.contents.message in
+    let rest = opts ++ port_and_payload d.contents.port_payload in
     let mic = mic_again (data_text d) d.mic h.mic in
     let head = head_field.again (d.dev_addr.0, (byte, d.f_cnt)) rest (h.dev_addr, (ctrl.0, h.f_cnt)) in
     let control = control_again d.control (length opts) few in
-    let cut : front_at (byte % 16) rest ≡ Some (opts, port_and_payload d.contents.message) =
-    (front_field (byte % 16)).again opts (port_and_payload d.contents.message) (h.contents.f_opts.0, sym ctrl.1) in
-    rw (mic, head, control, cut, message_again d.contents.message) refl
+    let cut : front_at (byte % 16) rest ≡ Some (opts, port_and_payload d.contents.port_payload) =
+    (front_field (byte % 16)).again opts (port_and_payload d.contents.port_payload) (h.contents.f_opts.0, sym ctrl.1) in
+    rw (mic, head, control, cut, port_payload_again d.contents.port_payload) refl
 
 -- ---- what follows an MHDR
 

@@ -15,10 +15,10 @@ port_len None = omega arith
 port_len (Some sent) = omega arith
 
 -- the message of a data frame has at most 251 bytes
-pub message_len : (d : DataFrame) → length d.contents.f_opts + frm_payload_len d.contents.message ≤ 242 → length (data_mic_input d) ≤ 251
+pub message_len : (d : DataFrame) → length d.contents.f_opts + frm_payload_len d.contents.port_payload ≤ 242 → length (data_mic_input d) ≤ 251
 message_len d fits =
-    let rest = length-append d.contents.f_opts (port_and_payload d.contents.message) in
-    let port = port_len d.contents.message in
+    let rest = length-append d.contents.f_opts (port_and_payload d.contents.port_payload) in
+    let port = port_len d.contents.port_payload in
     omega arith
 
 pub has_spelling : (frame : Phy) → FitsPhy frame → (12 ≤ length (spelling frame)) × (length (spelling frame) ≤ 255)
@@ -31,8 +31,8 @@ has_spelling (phy.JoinAccept (Short sealed)) h = let len = h.1 in (omega arith, 
 has_spelling (phy.JoinAccept (WithCfList sealed)) h = let len = h.1 in (omega arith, omega arith)
 has_spelling (phy.DataFrame d) h =
     let len = length-append (data_mic_input d) d.mic.0 in
-    let rest = length-append d.contents.f_opts (port_and_payload d.contents.message) in
-    let port = port_len d.contents.message in
+    let rest = length-append d.contents.f_opts (port_and_payload d.contents.port_payload) in
+    let port = port_len d.contents.port_payload in
     let fits = h.contents.fits in
     let mic = h.mic.1 in
     (omega arith, omega arith)

@@ -5,10 +5,10 @@ use Rattle.phy_payload.specs.declared.contents.PortPayload.{PortPayload}
 -- FOpts, and FPort with FRMPayload if there is a port
 pub record Carried : Type 0 where
   pub f_opts : List ℕ
-  pub message : Option PortPayload
+  pub port_payload : Option PortPayload
 
 abbrev pub carried_contents : List ℕ → Option PortPayload → Carried
-carried_contents opts sent = record { f_opts = opts; message = sent }
+carried_contents opts sent = record { f_opts = opts; port_payload = sent }
 
 -- the number of bytes of FRMPayload, 0 if there is no port
 abbrev pub frm_payload_len : Option PortPayload → ℕ

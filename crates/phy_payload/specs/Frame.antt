@@ -68,7 +68,7 @@ data_mic_input d =
     ++ (f_ctrl d.control (length d.contents.f_opts)
     ∷ (to_le_bytes w16 d.f_cnt
     ++ (d.contents.f_opts
-    ++ port_and_payload d.contents.message))))
+    ++ port_and_payload d.contents.port_payload))))
 
 -- the one spelling of a frame
 unfoldable pub spelling : Phy → List ℕ
@@ -98,8 +98,8 @@ IsPortPayload sent = (sent.f_port < 256) × IsBytes sent.frm_payload
 -- FOpts has at most 15 bytes, and a frame at most 255
 pub record IsCarried (c : Carried) : Type 0 where
   pub f_opts : IsBytes c.f_opts × (length c.f_opts ≤ 15)
-  pub message : IfSome c.message IsPortPayload
-  pub fits : length c.f_opts + frm_payload_len c.message ≤ 242
+  pub port_payload : IfSome c.port_payload IsPortPayload
+  pub fits : length c.f_opts + frm_payload_len c.port_payload ≤ 242
 
 pub record IsDataFrame (d : DataFrame) : Type 0 where
   pub dev_addr : d.dev_addr.0 < 2 ^ 32

@@ -85,7 +85,7 @@ mic_off bytes =
 abbrev pub fhdr_at : Reader (ℕ × (ℕ × ℕ))
 fhdr_at = both (le_at w32) (both byte_at (le_at w16))
 
--- a data frame whose FOpts and message are still to read
+-- a data frame whose FOpts and port payload are still to read
 abbrev pub contents_at : Bool → Control → ℕ × (ℕ × ℕ) → Mic → List ℕ → Option DataFrame
 contents_at confirmed control head mic bytes =
     front_at (head.1.0 % 16) bytes >>= λ opts.

@@ -11,9 +11,9 @@ use Rattle.phy_payload.specs.declared.phy.Phy.TheVariants as phy
 use Rattle.phy_payload.specs.Frame.{TakesMemory}
 
 -- a port with its payload, whether it refers to bytes or owns them
-abbrev pub seen_message : Option PortPayloadRef → Option PortPayload
-seen_message None = None
-seen_message (Some sent) =
+abbrev pub seen_port_payload : Option PortPayloadRef → Option PortPayload
+seen_port_payload None = None
+seen_port_payload (Some sent) =
     Some (record { f_port = sent.f_port; frm_payload = sent.frm_payload.now })
 
 -- a frame, whether it refers to its bytes or owns them

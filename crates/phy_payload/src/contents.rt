@@ -27,7 +27,7 @@ pub struct PortPayload {
 #[derive(PartialEq, Eq, Drop)]
 pub struct Contents {
     f_opts: FOpts,
-    message: Option<PortPayload>,
+    port_payload: Option<PortPayload>,
 }
 
 impl Model for Contents {
@@ -37,22 +37,22 @@ impl Model for Contents {
 
     ghost Value = { Carried };
 
-    ghost view = { λ c. record { f_opts = c.f_opts; message = c.message } };
+    ghost view = { λ c. record { f_opts = c.f_opts; port_payload = c.port_payload } };
 
-    ghost invariant = { λ c. length c.f_opts + frm_payload_len c.message ≤ LONGEST_PAYLOAD };
+    ghost invariant = { λ c. length c.f_opts + frm_payload_len c.port_payload ≤ LONGEST_PAYLOAD };
 
-    ghost inverse = { λ v. record { f_opts = v.f_opts; message = v.message } };
+    ghost inverse = { λ v. record { f_opts = v.f_opts; port_payload = v.port_payload } };
 }
 
 impl Contents {
     ghost use Rattle.std.specs.Option.{option_copied};
 
     /// These parts. FOpts and FRMPayload may have at most 242 bytes together.
-    pub fn new(f_opts: FOpts, message: Option<PortPayload>) -> Self
-        requires { length f_opts + frm_payload_len message ≤ LONGEST_PAYLOAD }
-        ensures { result ≡ carried_contents f_opts message }
+    pub fn new(f_opts: FOpts, port_payload: Option<PortPayload>) -> Self
+        requires { length f_opts + frm_payload_len port_payload ≤ LONGEST_PAYLOAD }
+        ensures { result ≡ carried_contents f_opts port_payload }
     {
-        Contents { f_opts, message }
+        Contents { f_opts, port_payload }
     }
 
     /// FOpts, at most 15 bytes.
@@ -64,21 +64,22 @@ impl Contents {
     }
 
     /// FPort and FRMPayload, if there is a port.
-    pub fn message(&self) -> Option<&PortPayload>
-        ensures message { option_copied result ≡ self.now.message }
-        ensures fits { length self.now.f_opts + frm_payload_len self.now.message ≤ LONGEST_PAYLOAD }
+    pub fn port_payload(&self) -> Option<&PortPayload>
+        ensures port_payload { option_copied result ≡ self.now.port_payload }
+        ensures fits { length self.now.f_opts + frm_payload_len self.now.port_payload
+            ≤ LONGEST_PAYLOAD }
     {
-        self.message.as_ref()
+        self.port_payload.as_ref()
     }
 
     /// FOpts, and the port with its payload.
     pub fn into_parts(self) -> (FOpts, Option<PortPayload>)
         ensures f_opts { result.0 ≡ self.f_opts }
-        ensures message { result.1 ≡ self.message }
-        ensures fits { length self.f_opts + frm_payload_len self.message ≤ LONGEST_PAYLOAD }
+        ensures port_payload { result.1 ≡ self.port_payload }
+        ensures fits { length self.f_opts + frm_payload_len self.port_payload ≤ LONGEST_PAYLOAD }
     {
-        let Contents { f_opts, message } = self;
-        (f_opts, message)
+        let Contents { f_opts, port_payload } = self;
+        (f_opts, port_payload)
     }
 }
 
@@ -88,7 +89,7 @@ impl Clone for Contents {
     fn clone(&self) -> Result<Self, AllocError> {
         Ok(Contents {
             f_opts: self.f_opts.clone()?,
-            message: self.message.clone()?,
+            port_payload: self.port_payload.clone()?,
         })
     }
 }

@@ -3,7 +3,7 @@ ghost use Rattle.std.specs.Prelude.{◌≡◌, ◌+◌, ◌≤◌, length, Match
 ghost use Rattle.lw_types.specs.declared.refusal.Refusal.TheVariants.{OutOfMemory};
 ghost use Rattle.phy_payload.specs.Contents.{carried_contents, frm_payload_len};
 ghost use Rattle.phy_payload.specs.Reading.{port_payload_of};
-ghost use Rattle.phy_payload.specs.Seen.{seen_message, phy_of, OwnsFrame};
+ghost use Rattle.phy_payload.specs.Seen.{seen_port_payload, phy_of, OwnsFrame};
 
 use crate::contents::{Contents, FOpts, FrmPayload, LONGEST_F_OPTS, PortPayload};
 use crate::control::Control;
@@ -85,10 +85,10 @@ impl<'a> DataFrameRef<'a> {
     }
 
     /// FPort and FRMPayload, if there is a port.
-    pub fn message(&self) -> Option<PortPayloadRef<'a>>
-        ensures message { seen_message result ≡ self.now.contents.message }
-        ensures fits { length self.now.contents.f_opts + frm_payload_len self.now.contents.message
-            ≤ LONGEST_PAYLOAD }
+    pub fn port_payload(&self) -> Option<PortPayloadRef<'a>>
+        ensures port_payload { seen_port_payload result ≡ self.now.contents.port_payload }
+        ensures fits { length self.now.contents.f_opts
+            + frm_payload_len self.now.contents.port_payload ≤ LONGEST_PAYLOAD }
     {
         let (f_port, frm_payload) = self.behind.split_first()?;
         Some(PortPayloadRef {
@@ -126,14 +126,14 @@ fn contents_from(alloc: Global, f_opts: &[u8], behind: &[u8]) -> Result<Contents
     ensures { MatchResult result (λ c. c ≡ carried_contents f_opts.now (port_payload_of behind.now))
         (λ e. e ≡ OutOfMemory) }
 {
-    let message = match behind.split_first() {
+    let port_payload = match behind.split_first() {
         None => None,
         Some((f_port, payload)) => Some(PortPayload {
             f_port: *f_port,
             frm_payload: FrmPayload::from_slice(alloc, payload)?,
         }),
     };
-    Ok(Contents::new(FOpts::from_slice(alloc, f_opts)?, message))
+    Ok(Contents::new(FOpts::from_slice(alloc, f_opts)?, port_payload))
 }
 
 /// A frame (TS001-1.0.4 §4.2.1) that refers to the bytes it was read from.

@@ -33,7 +33,7 @@ pub fn frames_are_short()
 pub fn mic_inputs_are_short(frame: &DataFrame)
     ensures { length (data_mic_input frame.now) ≤ 251 }
 {
-    let _ = frame.contents.message();
+    let _ = frame.contents.port_payload();
 }
 
 /// The same for a data frame that refers to the bytes it was read from.
@@ -41,7 +41,7 @@ pub fn mic_inputs_are_short(frame: &DataFrame)
 pub fn read_mic_inputs_are_short(frame: &DataFrameRef<'_>)
     ensures { length (data_mic_input frame.now) ≤ 251 }
 {
-    let _ = frame.message();
+    let _ = frame.port_payload();
 }
 
 /// The last four bytes of a data frame or of a Join-Request are its MIC. The bytes before them are

@@ -76,25 +76,25 @@ fn data_header(control: Control, confirmed: bool) -> u8
     }
 }
 
-fn put_message(out: &mut Vec<u8>, message: &PortPayload) -> Result<(), AllocError>
+fn put_port_payload(out: &mut Vec<u8>, port_payload: &PortPayload) -> Result<(), AllocError>
     ensures written { OnOk result
-        (out.new.items ≡ out.old.items ++ message.now.f_port ∷ message.now.frm_payload) }
-    ensures in_range { OnOk result (IsPortPayload message.now) }
+        (out.new.items ≡ out.old.items ++ port_payload.now.f_port ∷ port_payload.now.frm_payload) }
+    ensures in_range { OnOk result (IsPortPayload port_payload.now) }
 {
-    out.push(message.f_port)?;
-    put_bytes(out, message.frm_payload.as_slice())
+    out.push(port_payload.f_port)?;
+    put_bytes(out, port_payload.frm_payload.as_slice())
 }
 
 // FOpts, FPort and FRMPayload.
 fn put_contents(out: &mut Vec<u8>, contents: &Contents) -> Result<(), AllocError>
     ensures written { OnOk result
         (out.new.items ≡ out.old.items
-        ++ (contents.now.f_opts ++ port_and_payload contents.now.message)) }
+        ++ (contents.now.f_opts ++ port_and_payload contents.now.port_payload)) }
     ensures in_range { OnOk result (IsCarried contents.now) }
 {
     put_bytes(out, contents.f_opts())?;
-    if let Some(message) = contents.message() {
-        put_message(out, message)?;
+    if let Some(port_payload) = contents.port_payload() {
+        put_port_payload(out, port_payload)?;
     }
     Ok(())
 }

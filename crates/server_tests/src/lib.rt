@@ -8,6 +8,8 @@
 #[cfg(test)]
 mod disks;
 #[cfg(test)]
+mod durable_tests;
+#[cfg(test)]
 mod fault_words_tests;
 #[cfg(test)]
 mod faults_tests;
@@ -18,11 +20,15 @@ mod held_tests;
 #[cfg(test)]
 mod lives;
 #[cfg(test)]
+mod names_tests;
+#[cfg(test)]
 mod places_tests;
 #[cfg(test)]
 mod rows_tests;
 #[cfg(test)]
 mod sights_tests;
+#[cfg(test)]
+mod talk;
 #[cfg(test)]
 mod wire;
 #[cfg(test)]

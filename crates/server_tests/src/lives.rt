@@ -111,5 +111,6 @@ pub fn refusal_of(fault: ServeFault) -> Refusal {
     match fault {
         ServeFault::Listen => Refusal::DeviceFailed,
         ServeFault::Refused(refusal) => refusal,
+        ServeFault::Names(_) => Refusal::BadMessage,
     }
 }

@@ -1,11 +1,14 @@
 // Links that come and go during a server's life.
 use crate::lives::{new_store, of_socket, refusal_of};
-use crate::wire::wire;
-use lnsd_life::{Monotonic, OnBegun, OpenGate, Order, PlaceCount, ServedLife, WATCHING, serve_on};
+use crate::names_tests::TextNames;
+use crate::talk::{answer, connect, ends, hears, order, say, starts};
+use lnsd_life::{
+    Monotonic, NO_NAMES, OnBegun, OpenGate, Order, PlaceCount, ServedLife, WATCHING, serve_on,
+};
 use lnsd_operator::DiskTimes;
 use lw_types::Refusal;
 use std::alloc::Global;
-use std::io::{Read, Write};
+use std::io::Read;
 use std::net::{Net, Shutdown, SocketAddr, TcpListener, TcpStream};
 use std::os::unix::net;
 use std::os::unix::net::{SocketAddrExt, UnixListener, UnixStream};
@@ -39,63 +42,6 @@ const QUEUE: &str = "0022 03 |queue 1112131415161718 9 7 u 04D2|";
 
 const QUEUED: &str = "001A 13 |queued 1112131415161718 9|";
 
-fn say(alloc: Global, link: &mut TcpStream, text: &str) -> Result<(), Refusal> {
-    of_socket(link.write_all(wire(alloc, text)?.as_slice()))
-}
-
-// A link on which this is sent first.
-fn connect<R: Net<Stream = TcpStream>>(
-    rt: &R,
-    alloc: Global,
-    address: SocketAddr,
-    text: &str,
-) -> Result<TcpStream, Refusal> {
-    let mut link = of_socket(TcpStream::connect(rt, address))?;
-    say(alloc, &mut link, text)?;
-    Ok(link)
-}
-
-// Whether this is received next on a link.
-fn hears(alloc: Global, link: &mut TcpStream, text: &str) -> Result<bool, Refusal> {
-    let wanted = wire(alloc, text)?;
-    let mut heard = vec![in alloc; 0; wanted.len()]?;
-    of_socket(link.read_exact(heard.as_mut_slice()))?;
-    Ok(heard.as_slice() == wanted.as_slice())
-}
-
-// Whether a link ends, and nothing more is received on it.
-fn ends(link: &mut TcpStream) -> bool {
-    link.read(&mut [0; 1]).is_ok_and(|count| count == 0)
-}
-
-// Sends an order. Its answer is all that comes then.
-fn order<R: Net>(rt: &R, at: &net::SocketAddr, order: Order) -> Result<UnixStream, Refusal> {
-    let mut stream = of_socket(UnixStream::connect_addr(rt, at))?;
-    of_socket(stream.write_all(order.word().as_bytes()))?;
-    of_socket(stream.write_all(b"\n"))?;
-    Ok(stream)
-}
-
-fn answer<R: Net>(
-    rt: &R,
-    alloc: Global,
-    at: &net::SocketAddr,
-    asked: Order,
-) -> Result<String, Refusal> {
-    let mut text = String::new(alloc);
-    let mut stream = order(rt, at, asked)?;
-    of_socket(stream.read_to_string(&mut text))?;
-    Ok(text)
-}
-
-// Whether this is received first.
-fn starts(alloc: Global, stream: &UnixStream, text: &str) -> Result<bool, Refusal> {
-    let mut stream = stream;
-    let mut heard = vec![in alloc; 0; text.len()]?;
-    of_socket(stream.read_exact(heard.as_mut_slice()))?;
-    Ok(heard.as_slice() == text.as_bytes())
-}
-
 // Whether the clients of a life received what they should, what operators were sent, and the link
 // of the operator who asked the life to end.
 #[derive(Drop)]
@@ -103,6 +49,7 @@ struct Said {
     same: bool,
     status: String,
     devices: String,
+    reload: String,
     watcher: UnixStream,
     stop: UnixStream,
 }
@@ -135,10 +82,12 @@ fn clients<R: Net<Listener = TcpListener, Stream = TcpStream>>(
     same = same && hears(alloc, &mut application, QUEUED)?;
     let status = answer(rt, alloc, control, Order::Status)?;
     let devices = answer(rt, alloc, control, Order::Devices)?;
+    let reload = answer(rt, alloc, control, Order::Reload)?;
     Ok(Said {
         same,
         status,
         devices,
+        reload,
         watcher,
         stop: order(rt, control, Order::Stop)?,
     })
@@ -153,7 +102,9 @@ const STATUS: &[&str] = &[
     "slots 8\n",
     "made 4\n",
     "decided 4\n",
+    "durable 4\n",
     "taken_over 1\n",
+    "unlisted 0\n",
     "checkpoints 0\n",
     "syncs 0\n",
     "last_copy_00000000000000B1 ",
@@ -210,7 +161,17 @@ where
     let (served, said) = join(
         rt,
         || serve_on(
-            rt, alloc, store, listener, control, places, &OpenGate, &clock, &times, &mut begun,
+            rt,
+            alloc,
+            store,
+            listener,
+            control,
+            places,
+            None::<&TextNames>,
+            &OpenGate,
+            &clock,
+            &times,
+            &mut begun,
         ),
         || clients(rt, alloc, address, &at),
     );
@@ -236,6 +197,7 @@ fn wrong(alloc: Global, said: Said) -> Result<Option<&'static str>, Refusal> {
         same,
         status,
         devices,
+        reload,
         watcher,
         ..
     } = said;
@@ -245,6 +207,9 @@ fn wrong(alloc: Global, said: Said) -> Result<Option<&'static str>, Refusal> {
     let mut watcher = watcher;
     let mut watched = String::new(alloc);
     of_socket(watcher.read_to_string(&mut watched))?;
+    if reload.as_str().trim_end() != NO_NAMES.trim_end() {
+        return Ok(Some("no names"));
+    }
     Ok(
         lacks(status.as_str(), STATUS)
             .or(lacks(devices.as_str(), DEVICES))

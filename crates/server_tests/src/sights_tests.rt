@@ -93,6 +93,7 @@ fn sights_are_told_by_lines(rt: HostRuntime) {
         Sight::Faulted(Some(application())),
         Sight::Faulted(None),
         Sight::Silent,
+        Sight::Unlisted(gateway()),
         Sight::Dropped(gateway(), 12),
         Sight::Checkpoint,
         Sight::SlowSync(250),
@@ -112,6 +113,7 @@ ended gateway 00000000000000B1
 faulted application 3
 faulted
 silent
+unlisted gateway 00000000000000B1
 dropped gateway 00000000000000B1 12
 checkpoint
 slow_sync 250

@@ -57,12 +57,17 @@ const ROWS: &[(&str, &str)] = &[
     ("serve --help", "help"),
     (
         "run store --listen 127.0.0.1:5600",
-        "run store 127.0.0.1:5600 96",
+        "run store 127.0.0.1:5600 96 -",
     ),
     (
         "run --links 1 store --listen [::1]:5600",
-        "run store [::1]:5600 1",
+        "run store [::1]:5600 1 -",
     ),
+    (
+        "run store --names listed --listen 127.0.0.1:5600",
+        "run store 127.0.0.1:5600 96 listed",
+    ),
+    ("run store --listen 127.0.0.1:5600 --names", "wrong"),
     ("run store --listen 127.0.0.1:5600 --links 0", "wrong"),
     ("run store --listen 127.0.0.1:5600 --links 97", "wrong"),
     ("run store", "wrong"),
@@ -77,6 +82,14 @@ const ROWS: &[(&str, &str)] = &[
     ("watch store", "watch store"),
     ("watch store other", "wrong"),
     ("watch --help", "help"),
+    ("reload store", "reload store"),
+    ("reload store --names listed", "wrong"),
+    ("reload", "wrong"),
+    ("reload --help", "help"),
+    ("copy store new", "copy store new"),
+    ("copy store", "wrong"),
+    ("copy store new other", "wrong"),
+    ("copy --help", "help"),
     ("status store", "status store 0"),
     ("status --wait 3600 store", "status store 3600"),
     ("status store --wait 3601", "wrong"),
@@ -195,13 +208,16 @@ fn asked_of(alloc: Global, mode: &Mode<'_>) -> Result<String, AllocError> {
             file,
             listen,
             links,
+            names,
         } => {
-            let links = links.get();
-            format!(in alloc; "run {file} {listen} {links}")
+            let (links, names) = (links.get(), names.unwrap_or("-"));
+            format!(in alloc; "run {file} {listen} {links} {names}")
         }
         Mode::Stop { file } => format!(in alloc; "stop {file}"),
         Mode::Devices { file } => format!(in alloc; "devices {file}"),
         Mode::Watch { file } => format!(in alloc; "watch {file}"),
+        Mode::Reload { file } => format!(in alloc; "reload {file}"),
+        Mode::Copy { file, new } => format!(in alloc; "copy {file} {new}"),
         Mode::Status { file, wait } => {
             let wait = wait.get();
             format!(in alloc; "status {file} {wait}")

@@ -33,7 +33,7 @@ drop_none : {X : Type 0} (n : ℕ) → drop n (let none : List X = [] in none) �
 drop_none zero = refl
 drop_none (suc n) = refl
 
-drop_further : {X : Type 0} (n k : ℕ) (xs : List X) → drop k (drop n xs) ≡ drop (n + k) xs
+pub drop_further : {X : Type 0} (n k : ℕ) (xs : List X) → drop k (drop n xs) ≡ drop (n + k) xs
 drop_further zero k xs = let same : k ≡ 0 + k = omega arith in ap (λ i. drop i xs) same
 drop_further {X} (suc n) k [] = drop_none {X = X} k ∙ sym (drop_none {X = X} (suc n + k))
 drop_further (suc n) k (x ∷ xs) =
@@ -266,7 +266,7 @@ closes-so (suc n) old last closes few lawful =
 -- ---- turns
 
 -- two runs of decisions continue a table if the second continues what the first leaves
-abbrev Joins : Type 0
+abbrev pub Joins : Type 0
 Joins =
     (t : TableState) (seq : ℕ) (first second : List Decision)
     → ContinueAll t seq (first ++ second) ↔ (ContinueAll t seq first × ContinueAll (with_decisions t first) (seq + length first) second)

@@ -1,9 +1,8 @@
 -- Windows that are closed, and the results of their commands.
-use Rattle.std.proofs.Common.{◌≡◌, ◌≢◌, ◌≤◌, ◌<◌, ◌+◌, ◌∙◌, ℕ, zero, suc, Bool, true, false, ◌||◌, List, [], ◌∷◌, ◌++◌, length, cond, nat_le, Option, Some, None, Result, Ok, Err, refl, sym, ap, subst, arith}
+use Rattle.std.proofs.Common.{◌≡◌, ◌≤◌, ◌<◌, ◌+◌, ◌∙◌, ℕ, zero, suc, Bool, true, false, ◌||◌, List, [], ◌∷◌, ◌++◌, length, cond, nat_le, Option, Some, Result, Ok, Err, refl, sym, ap, subst, arith}
 use Rattle.std.specs.List.{All, list_any}
 use Rattle.std.specs.Bool.{MatchBool}
 use Rattle.std.specs.Result.{OnErr, OnOk, result_err}
-use Rattle.std.specs.Option.{MatchOption}
 use Rattle.std.proofs.lemmas.List.Elements.{All-cons, All-head, All-tail, All-push, All-rest, All-weaker}
 use Rattle.std.proofs.lemmas.List.Folds.{list_any_none}
 use Rattle.lw_types.specs.Answer.{Answers}
@@ -213,45 +212,6 @@ heard-not old copy not = record { known = tt; receivable = λ is. absurd (not is
 
 -- ---- the oldest window
 
-no_window : (w : Window) (ws : List Window) → ◌≡◌ {A = Bool} true false → ⊥
-no_window w ws h = cc
-
-same_rest : (v w : Window) (vs ws : List Window) → v ∷ vs ≡ w ∷ ws → vs ≡ ws
-same_rest v w vs ws h = cc
-
-pub opened-closed : (now : ℕ) (ws after : List Window) (found : Option Heard) → MatchOption found ((after ≡ ws) × NoneDue now ws) (λ heard. IsOldestDue now ws heard after)
-    → All (λ w. w.opened ≤ now) ws → All (λ w. w.opened ≤ now) after
-opened-closed now ws after None h opened = subst (All (λ (w : Window). w.opened ≤ now)) (sym h.0) opened
-opened-closed now ws after (Some heard) h opened = opened-rest now ws after heard h opened
-
--- it is taken out after its frame was handed in
-pub closed-oldest : (old mid : CoreState) (answer : Result (Unit {0}) Refusal) (after : List Window) (found : Option Heard) → HandsInOldest old answer mid → answer ≢ Err OutOfMemory
-    → MatchOption found ((after ≡ mid.windows) × NoneDue mid.clock mid.windows) (λ heard. IsOldestDue mid.clock mid.windows heard after)
-    → ClosesOldest old (record mid { windows = after })
-closed-oldest old mid answer after found hands memory closed =
-    record {
-      result = answer;
-      between = mid;
-      handed_in = hands;
-      there_was_memory = memory;
-      new_is = ap (λ (l : List Window). record mid { windows = l }) (rest found closed);
-    }
-  where
-    windows : mid.windows ≡ old.windows
-    windows = hands-windows old answer mid hands
-
-    clock : mid.clock ≡ old.clock
-    clock = hands-clock old answer mid hands
-
-    rest : (found : Option Heard) → MatchOption found ((after ≡ mid.windows) × NoneDue mid.clock mid.windows) (λ heard. IsOldestDue mid.clock mid.windows heard after)
-        → after ≡ hands.rest
-    rest None h =
-        let due = due-some old.clock old.windows hands.rest hands.heard hands.oldest in
-        let none = due-none mid.clock mid.windows h.1 in
-        absurd (no_window hands.oldest.window hands.rest
-        (sym due ∙ (ap (λ (l : List Window). list_any (is_due old.clock) l) (sym windows) ∙ (ap (λ now. list_any (is_due now) mid.windows) (sym clock) ∙ none))))
-    rest (Some heard) h = same_rest h.window hands.oldest.window after hands.rest (sym h.oldest ∙ (windows ∙ hands.oldest.oldest))
-
 pub hands-lacking : (old : CoreState) (now : ℕ) (heard : Heard) (rest : List Window) (e : Refusal) (result : Result (Unit {0}) Refusal) (new : CoreState) → now ≡ old.clock → IsOldestDue now old.windows heard rest
     → (has_room old.decisions ≡ false → e ≡ Backlog) → IsWithoutMemory old.decisions (commands.Heard heard) e → IsLawful old.decisions → result ≡ Err e → new ≡ with_outcome old old.decisions (Err e)
     → HandsInOldest old result new
@@ -278,15 +238,6 @@ hands-full old now heard rest result new at oldest none lawful is noted =
 pub verdict-of-err : (r : Result (Unit {0}) Refusal) → verdict_of (result_err r) ≡ r
 verdict-of-err (Ok done) = refl
 verdict-of-err (Err e) = refl
-
-pub counted : (n : ℕ) (old last new : CoreState) → Closes n old last → new ≡ record last { closings = n } → HasClosed old new
-counted n old last new closes is =
-    let count : new.closings ≡ n = ap (λ (s : CoreState). s.closings) is in
-    record {
-      last = last;
-      closed = subst (λ n. Closes n old last) (sym count) closes;
-      new_is = is ∙ ap (λ n. record last { closings = n }) (sym count);
-    }
 
 -- an event whose own work was done
 pub turned-own : (old between new : CoreState) (moment : ℕ) (Own : CoreState → Option Refusal → CoreState → Type 0) (turn : Turn) → HasClosed (core_at_moment old moment) between

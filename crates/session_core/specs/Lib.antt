@@ -5,6 +5,9 @@ pub mod Core
 pub mod Events
 pub mod Calls
 pub mod Handling
+pub mod History
 pub mod KeptCore
 pub mod Standing
 pub mod Seats
+pub mod Taking
+pub mod Observing

@@ -1,11 +1,12 @@
-// The two ledgers of a life.
+// The two ledgers and the history of a life.
 ghost use Rattle.std.specs.Prelude.{ℕ};
+ghost use Rattle.logbook.specs.Pages.{Book};
 
 use std::marker::{Brand, PhantomData};
 use std::sync::ledger::Ledger;
 
-/// Names the two ledgers of a life, and says how many seats share the first one. It exists for
-/// proofs only: the caller that begins the life provides the ledgers' names.
+/// Names the two ledgers and the history of a life, and says how many seats share the first ledger.
+/// It exists for proofs only: the caller that begins the life provides the names.
 pub trait Books {
     /// The name of the ledger of decisions made.
     ghost made_name: { ℕ };
@@ -15,6 +16,9 @@ pub trait Books {
 
     /// The name of the ledger of decisions taken, which has one part.
     ghost taken_name: { ℕ };
+
+    /// The history of the decisions.
+    ghost history: { Book };
 }
 
 impl Books for Brand {
@@ -23,6 +27,8 @@ impl Books for Brand {
     ghost made_parts = { 0 };
 
     ghost taken_name = { 0 };
+
+    ghost history = { record { number = 0; log_name = 0; cells_name = 0 } };
 }
 
 /// The ledger of the decisions that were made, with one part for each seat.

@@ -1,24 +1,24 @@
 // The parts of an event: closing windows, and handing in commands and copies.
-ghost use Rattle.std.specs.Prelude.{◌≡◌, ◌≢◌, ◌∷◌, ◌+◌, ℕ, List, true, false, length, max, Err};
-ghost use Rattle.std.specs.Prelude.{Some, MatchBool, MatchResult, IfOk};
-ghost use Rattle.std.specs.Option.{MatchOption};
+ghost use Rattle.std.specs.Prelude.{◌≡◌, ◌≢◌, ℕ, true, false, max, Err};
+ghost use Rattle.std.specs.Prelude.{MatchBool, MatchResult};
 ghost use Rattle.lw_types.specs.declared.refusal.Refusal.TheVariants.{OutOfMemory};
-ghost use Rattle.devices.specs.declared.command.Command.TheVariants as commands;
 ghost use Rattle.session_core.specs.Calls.{work_of};
-ghost use Rattle.session_core.specs.Core.{CoreState, IsLawfulCore, with_outcome};
-ghost use Rattle.session_core.specs.Events.{Asks, Closes, ClosesOldest, Handles, HandsInOldest};
-ghost use Rattle.session_core.specs.Events.{HasClosed, IsHeard, has_due, core_at_moment};
+ghost use Rattle.session_core.specs.Core.{with_outcome};
+ghost use Rattle.session_core.specs.Events.{Handles, IsHeard, has_due};
+ghost use Rattle.session_core.specs.Events.{core_at_moment};
+ghost use Rattle.session_core.specs.Observing.{ClosesOldestSeen, ClosesSeen, HasClosedSeen};
 
-use crate::{Core, Event, Moment, Outcome};
-use devices::{Command, Heard, Hearings, is_receivable};
-use lw_types::{FrameCopy, PhyPayload, Refusal};
-use std::alloc::AllocError;
+use crate::observed::Observed;
+use crate::{ClosedFrame, Core, Event, Moment, Outcome};
+use devices::{Command, is_receivable};
+use lw_types::{FrameCopy, Refusal};
 
 impl Core {
     /// Moves the effective time and closes the windows that are due. If memory runs out for one of
     /// them, it and those after it stay open.
-    pub(crate) fn begin(&mut self, moment: Moment) -> Result<(), Refusal>
-        ensures closed { HasClosed (core_at_moment self.old moment) self.new }
+    pub(crate) fn begin(&mut self, moment: Moment, observed: &mut Observed) -> Result<(), Refusal>
+        ensures closed { HasClosedSeen (core_at_moment self.old moment) self.new
+            observed.old observed.new }
         ensures due { MatchResult result
             (λ _. has_due self.new ≡ false)
             (λ e. (e ≡ OutOfMemory) × (has_due self.new ≡ true)) }
@@ -26,61 +26,52 @@ impl Core {
         self.clock = later(self.clock, moment);
         self.closings = 0;
         let open = self.windows.len();
-        let result = self.close_due();
+        let result = self.close_due(observed);
         self.closings = open - self.windows.len();
         result
     }
 
     // Closes the windows that are due, the oldest first.
-    fn close_due(&mut self) -> Result<(), Refusal>
-        ensures closed { (count : ℕ) × Closes count self.old self.new }
+    fn close_due(&mut self, observed: &mut Observed) -> Result<(), Refusal>
+        ensures closed { (count : ℕ)
+            × ClosesSeen count self.old self.new observed.old observed.new }
         ensures due { MatchResult result
             (λ _. has_due self.new ≡ false)
             (λ e. (e ≡ OutOfMemory) × (has_due self.new ≡ true)) }
     {
         for _i in 0..self.windows.len() {
-            if !self.close_oldest()? {
+            if !self.close_oldest(observed)? {
                 return Ok(());
             }
         }
         Ok(())
     }
 
-    // Closes the oldest window if it is due, and returns whether it was.
-    fn close_oldest(&mut self) -> Result<bool, Refusal>
+    // Closes the oldest window if it is due, and returns whether it was. If memory runs out, it
+    // stays open; `OutOfMemory` may also come in place of a refusal of the join server.
+    fn close_oldest(&mut self, observed: &mut Observed) -> Result<bool, Refusal>
         ensures { MatchResult result
-            (λ done. MatchBool done (ClosesOldest self.old self.new)
-            ((self.new ≡ self.old) × (has_due self.old ≡ false)))
-            (λ e. (e ≡ OutOfMemory) × ((self.new ≡ self.old) × (has_due self.old ≡ true))) }
+            (λ done. MatchBool done (ClosesOldestSeen self.old self.new observed.old observed.new)
+            (((self.new ≡ self.old) × (observed.new ≡ observed.old)) × (has_due self.old ≡ false)))
+            (λ e. (e ≡ OutOfMemory) × (((self.new ≡ self.old) × (observed.new ≡ observed.old))
+            × (has_due self.old ≡ true))) }
     {
-        let Some(answer) = self.hand_in_oldest() else {
-            return Ok(false);
-        };
-        if is_starved(&answer) {
-            return Err(Refusal::OutOfMemory);
-        }
-        let heard = self.windows.close(self.clock.get());
-        self.observed.add(heard, answer.err());
-        Ok(true)
-    }
-
-    // Hands in the frame of the oldest window, and returns the answer; `None` if the window isn't
-    // due. If memory for a copy of the frame runs out, the answer is the refusal that the frame
-    // would get anyway, or else `OutOfMemory`, which may also replace a refusal of the join server.
-    fn hand_in_oldest(&mut self) -> Option<Result<(), Refusal>>
-        ensures { MatchOption result
-            ((self.new ≡ self.old) × (has_due self.old ≡ false))
-            (λ answer. HandsInOldest self.old answer self.new) }
-    {
-        let (phy_payload, hearings) = self.windows.due(self.clock.get())?;
-        if !self.decisions.has_room() {
-            return Some(self.noted(Err(Refusal::Backlog)));
-        }
-        match heard_of(phy_payload, hearings) {
-            Ok(heard) => Some(self.hand_in(Command::Heard(heard))),
-            Err(_) => {
-                let refusal = self.decisions.lack_heard(phy_payload, hearings);
-                Some(self.noted(Err(refusal)))
+        let now = self.clock.get();
+        match self.decisions.keep_oldest(&mut self.windows, now) {
+            Ok(None) => Ok(false),
+            Ok(Some(decided)) => {
+                let _ = self.noted(Ok(()));
+                observed.add(ClosedFrame::Decided(decided));
+                Ok(true)
+            }
+            Err(refusal) => {
+                if is_starved(refusal) {
+                    return Err(refusal);
+                }
+                let heard = self.windows.close(now).unwrap();
+                let _ = self.noted(Err(refusal));
+                observed.add(ClosedFrame::Refused { heard, refusal });
+                Ok(true)
             }
         }
     }
@@ -148,20 +139,9 @@ fn later(a: Moment, b: Moment) -> Moment
     if a.get() < b.get() { b } else { a }
 }
 
-// Whether memory ran out for a command.
-fn is_starved(answer: &Result<(), Refusal>) -> bool
-    ensures { MatchBool result (answer.now ≡ Err OutOfMemory) (answer.now ≢ Err OutOfMemory) }
+// Whether memory ran out.
+fn is_starved(refusal: Refusal) -> bool
+    ensures { MatchBool result (refusal ≡ OutOfMemory) (refusal ≢ OutOfMemory) }
 {
-    matches!(answer, Err(Refusal::OutOfMemory))
-}
-
-// A frame with its copies, in newly allocated memory.
-fn heard_of(phy_payload: &PhyPayload, hearings: &Hearings) -> Result<Heard, AllocError>
-    ensures { IfOk result (λ heard. (heard.phy_payload ≡ phy_payload.now)
-        × (heard.hearings ≡ hearings.now)) }
-{
-    Ok(Heard {
-        phy_payload: phy_payload.clone()?,
-        hearings: hearings.clone()?,
-    })
+    matches!(refusal, Refusal::OutOfMemory)
 }

@@ -1,15 +1,18 @@
 // The decisions of one life.
-ghost use Rattle.std.specs.Prelude.{◌≡◌, ◌≤◌, MatchResult, OnErr, Err, false, take, drop, length};
-ghost use Rattle.std.specs.Prelude.{[]};
+ghost use Rattle.std.specs.Prelude.{◌≡◌, ◌≤◌, ◌<◌, MatchResult, OnErr, Err, false};
+ghost use Rattle.std.specs.Prelude.{take, drop, length};
+ghost use Rattle.std.specs.Prelude.{[], Some, slice_get};
 ghost use Rattle.lw_types.specs.declared.refusal.Refusal.TheVariants.{Backlog, OutOfMemory};
 ghost use Rattle.session_core.specs.State.{IsLawful, now_of, new_decisions, last_number};
 ghost use Rattle.session_core.specs.Deciding.{Makes, IsWithoutMemory, has_room, step_if_room};
 ghost use Rattle.session_core.specs.Deciding.{after_taking};
+ghost use Rattle.session_core.specs.Observing.{KeepsOldest};
 ghost use Rattle.sessions.specs.Decision.{AnswersTo};
-ghost use Rattle.sessions.specs.Served.{heard_command};
 
-use devices::{Command, Hearings};
-use lw_types::{PhyPayload, Refusal};
+use crate::DecidedFrame;
+use dedup::Windows;
+use devices::Command;
+use lw_types::Refusal;
 use sessions::{Batch, Decision, Most, Table};
 use std::alloc::Global;
 use std::collections::VecDeque;
@@ -88,6 +91,22 @@ impl Decisions {
         self.made
     }
 
+    /// The number of decisions that were taken.
+    pub(crate) fn taken(&self) -> u64
+        ensures count { result ≡ self.now.taken }
+        ensures lawful { IsLawful self.now }
+    {
+        self.taken
+    }
+
+    /// The decision at this place among those that wait to be taken, from 0.
+    pub(crate) fn waiting(&self, place: usize) -> &Decision
+        requires { place < length self.now.log }
+        ensures { slice_get self.now.log place ≡ Some result.now }
+    {
+        &self.log[place]
+    }
+
     /// The number of decisions that wait to be taken.
     pub(crate) fn untaken(&self) -> usize
         ensures count { result ≡ length self.now.log }
@@ -126,6 +145,44 @@ impl Decisions {
         Ok(())
     }
 
+    /// Hands in the frame of the oldest window. If it is decided, the window is closed, and the
+    /// frame moves into the decision: nothing can fail any more, so neither is lost. `None` if the
+    /// window isn't due. Refused as [`Decisions::keep`] refuses the frame; then the window stays
+    /// open.
+    pub(crate) fn keep_oldest(
+        &mut self,
+        windows: &mut Windows,
+        now: u64,
+    ) -> Result<Option<DecidedFrame>, Refusal>
+        ensures { KeepsOldest now self.old windows.old result self.new windows.new }
+    {
+        let Some((phy_payload, hearings)) = windows.due(now) else {
+            return Ok(None);
+        };
+        if !self.has_room() {
+            return Err(Refusal::Backlog);
+        }
+        let number = self.seq() + 1;
+        let step = self
+            .table
+            .step_heard(self.alloc, number, phy_payload, hearings)?;
+        let record = step.after.copy()?;
+        self.log.reserve(1)?;
+        let decided = DecidedFrame {
+            slot: step.slot,
+            best: hearings.best(),
+            is_join_request: step.is_join_request,
+        };
+        let heard = windows.close(now).unwrap();
+        let decision = step.into_decision(heard);
+        sessions::laws::joining();
+        sessions::laws::taking_back();
+        self.table.apply_copy(&decision, record);
+        self.log.push_back_reserved(decision);
+        self.made += 1;
+        Ok(Some(decided))
+    }
+
     /// The refusal of a command for which memory ran out: the one that it would get anyway, or else
     /// `OutOfMemory`, which may also replace a refusal of the join server.
     pub(crate) fn lack(&self, command: &Command) -> Refusal
@@ -137,27 +194,6 @@ impl Decisions {
             return Refusal::Backlog;
         }
         match self.table.check(self.alloc, self.seq() + 1, command) {
-            Ok(()) => Refusal::OutOfMemory,
-            Err(refusal) => refusal,
-        }
-    }
-
-    /// The refusal of a frame with these copies, when memory to hand it in ran out: the one that it
-    /// would get anyway, or else `OutOfMemory`, which may also replace a refusal of the join
-    /// server.
-    pub(crate) fn lack_heard(&self, phy_payload: &PhyPayload, hearings: &Hearings) -> Refusal
-        ensures full { has_room self.now ≡ false → result ≡ Backlog }
-        ensures lack { IsWithoutMemory self.now
-            (heard_command phy_payload.now hearings.now) result }
-        ensures lawful { IsLawful self.now }
-    {
-        if !self.has_room() {
-            return Refusal::Backlog;
-        }
-        match self
-            .table
-            .check_heard(self.alloc, self.seq() + 1, phy_payload, hearings)
-        {
             Ok(()) => Refusal::OutOfMemory,
             Err(refusal) => refusal,
         }

@@ -1,5 +1,6 @@
 // The core, and the events that come to it.
-ghost use Rattle.std.specs.Prelude.{◌≡◌, ◌≤◌, IsSome, MatchResult, take, length};
+ghost use Rattle.std.specs.Prelude.{◌≡◌, ◌≤◌, ◌<◌, IsSome, MatchResult, Some};
+ghost use Rattle.std.specs.Prelude.{slice_get, take, length};
 ghost use Rattle.lw_types.specs.declared.refusal.Refusal.TheVariants.{OutOfMemory};
 ghost use Rattle.devices.specs.declared.command.Command.TheVariants as commands;
 ghost use Rattle.session_core.specs.State.{now_of, last_number};
@@ -7,15 +8,16 @@ ghost use Rattle.session_core.specs.Deciding.{after_taking};
 ghost use Rattle.session_core.specs.Calls.{work_of};
 ghost use Rattle.session_core.specs.Core.{IsLawfulCore, new_core};
 ghost use Rattle.session_core.specs.Events.{IsTurn, Asks, Hears, Starves, Ticks, next_due};
+ghost use Rattle.session_core.specs.Observing.{IsSeenTurn, nothing_seen};
 
 use crate::decisions::Decisions;
 use crate::observed::Observed;
-use crate::{ClosedFrame, Event, MOST_OUTCOMES, Moment, Most, Outcome, Turn};
+use crate::{Event, MOST_OUTCOMES, Moment, Most, Outcome, Turn};
 use circular_buffer::HeapCircularBuffer;
 use dedup::Windows;
 use devices::{Command, MacQueueing, Provisioning, Queueing};
 use lw_types::{FrameCopy, Refusal};
-use sessions::{Batch, Table};
+use sessions::{Batch, Decision, Table};
 use std::alloc::Global;
 use std::marker::Model;
 
@@ -29,7 +31,6 @@ pub struct Core {
     pub(crate) windows: Windows,
     pub(crate) closings: usize,
     pub(crate) outcomes: HeapCircularBuffer<Outcome>,
-    pub(crate) observed: Observed,
 }
 
 // By hand, so that it is proved once: a derived drop is proved again at each use of the type.
@@ -42,7 +43,6 @@ impl Drop for Core {
             windows: _,
             closings: _,
             outcomes: _,
-            observed: _,
         } = self;
     }
 }
@@ -73,7 +73,6 @@ impl Core {
             windows: Windows::new(alloc),
             closings: 0,
             outcomes: HeapCircularBuffer::with_capacity(alloc, MOST_OUTCOMES)?,
-            observed: Observed::new(alloc),
         })
     }
 
@@ -101,6 +100,22 @@ impl Core {
         self.decisions.made()
     }
 
+    /// The number of decisions that were taken.
+    pub fn taken(&self) -> u64
+        ensures count { result ≡ self.now.decisions.taken }
+        ensures lawful { IsLawfulCore self.now }
+    {
+        self.decisions.taken()
+    }
+
+    /// The decision at this place among those that wait to be taken, from 0.
+    pub(crate) fn waiting(&self, place: usize) -> &Decision
+        requires { place < length self.now.decisions.log }
+        ensures { slice_get self.now.decisions.log place ≡ Some result.now }
+    {
+        self.decisions.waiting(place)
+    }
+
     /// The number of decisions that wait to be taken.
     pub fn untaken(&self) -> usize
         ensures count { result ≡ length self.now.decisions.log }
@@ -122,23 +137,6 @@ impl Core {
         ensures { result ≡ length self.now.windows }
     {
         self.windows.len()
-    }
-
-    /// From now on the frames whose windows are closed are kept until they are taken. At most 1,024
-    /// are kept, the most that one event can close.
-    pub fn observe(&mut self)
-        ensures { self.new ≡ self.old }
-    {
-        self.observed.begin();
-    }
-
-    /// Returns the frames that were kept, the oldest first. Before `observe` was called there are
-    /// none, and frames for which memory ran out are missing. No contract says which frames they
-    /// are.
-    pub fn take_closed(&mut self) -> Vec<ClosedFrame>
-        ensures { self.new ≡ self.old }
-    {
-        self.observed.take()
     }
 
     /// The effective time: the latest moment that an event of this life has brought, 0 before the
@@ -177,13 +175,34 @@ impl Core {
         ensures turn { IsTurn self.old moment (work_of event) result self.new }
         ensures lawful { IsLawfulCore self.old }
     {
+        let mut observed = self.observed(false);
+        self.handle_seen(moment, event, &mut observed)
+    }
+
+    /// The same, while somebody may observe which windows it closes.
+    pub(crate) fn handle_seen(
+        &mut self,
+        moment: Moment,
+        event: Event,
+        observed: &mut Observed,
+    ) -> Turn
+        ensures turn { IsSeenTurn self.old moment event result self.new observed.old observed.new }
+        ensures lawful { IsLawfulCore self.old }
+    {
         let from = self.made();
-        let refused = match self.begin(moment) {
+        let refused = match self.begin(moment, observed) {
             Ok(()) => self.work(event),
             Err(refusal) => Some(refusal),
         };
         let to = self.made();
         Turn { from, to, refused }
+    }
+
+    /// What observers are given before an event: nothing. Frames are kept if somebody observes.
+    pub(crate) fn observed(&self, is_kept: bool) -> Observed
+        ensures { result ≡ nothing_seen is_kept }
+    {
+        Observed::new(self.alloc, is_kept)
     }
 
     /// A gateway heard a frame ([`Core::handle`]).
@@ -236,7 +255,8 @@ impl Core {
         ensures lawful { IsLawfulCore self.old }
     {
         let from = self.made();
-        let refused = match self.begin(moment) {
+        let mut observed = self.observed(false);
+        let refused = match self.begin(moment, &mut observed) {
             Ok(()) => self.pass_over(command),
             Err(refusal) => refusal,
         };
@@ -254,7 +274,8 @@ impl Core {
         ensures lawful { IsLawfulCore self.old }
     {
         let from = self.made();
-        let _ = self.begin(moment);
+        let mut observed = self.observed(false);
+        let _ = self.begin(moment, &mut observed);
         let to = self.made();
         Turn {
             from,

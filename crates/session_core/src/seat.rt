@@ -1,5 +1,5 @@
 // The shares that threads have in what a core made and gave.
-use crate::{Books, CallKind, Made, Moment, Taken};
+use crate::{Books, CallKind, History, Made, Moment, Taken};
 use lw_types::Refusal;
 use std::marker::Model;
 use std::sync::ledger::Share;
@@ -74,37 +74,53 @@ impl<B: Books> Seat<B> {
 }
 
 /// The flusher's share of the decisions that were taken: all of them. In contracts it is their
-/// number.
+/// number, and the history of the life's decisions as far as the last take saw it.
 #[derive(Drop)]
 pub struct Taker<B: Books> {
     pub(crate) share: Share<Taken<B>>,
     pub(crate) count: u64,
+    pub(crate) seen: History<B>,
 }
 
 impl<B: Books> Model for Taker<B> {
-    ghost use Rattle.std.specs.Prelude.{◌≡◌, ℕ};
+    ghost use Rattle.std.specs.Prelude.{◌≡◌};
+    ghost use Rattle.session_core.specs.Taking.{TakerState};
 
-    ghost Value = { ℕ };
+    ghost Value = { TakerState };
 
-    ghost view = { λ s. s.count };
+    ghost view = { λ s. record { taken = s.count; seen = s.seen } };
 
     ghost invariant = { λ s. (s.share.parts ≡ 1) × (s.share.amount ≡ s.count) };
 }
 
 impl<B: Books> Taker<B> {
-    ghost use Rattle.std.specs.Prelude.{◌≡◌};
+    ghost use Rattle.std.specs.Prelude.{◌≡◌, []};
+    ghost use Rattle.session_core.specs.Taking.{new_taker};
 
-    pub(crate) fn new(share: Share<Taken<B>>) -> Self
-        requires { (share.parts ≡ 1) × (share.amount ≡ 0) }
-        ensures { result ≡ 0 }
+    pub(crate) fn new(share: Share<Taken<B>>, seen: History<B>) -> Self
+        requires share { (share.parts ≡ 1) × (share.amount ≡ 0) }
+        requires seen { seen ≡ [] }
+        ensures { result ≡ new_taker }
     {
-        Taker { share, count: 0 }
+        Taker {
+            share,
+            count: 0,
+            seen,
+        }
     }
 
     /// The number of decisions taken.
     pub fn share(&self) -> u64
-        ensures { result ≡ self.now }
+        ensures { result ≡ self.now.taken }
     {
         self.count
+    }
+
+    /// The history of the life's decisions, as far as the last take saw it. It is empty before the
+    /// first.
+    pub fn seen(&self) -> &History<B>
+        ensures { result.now ≡ self.now.seen }
+    {
+        &self.seen
     }
 }

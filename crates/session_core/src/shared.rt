@@ -1,17 +1,23 @@
 // A core that several threads share, with the books of what each thread made and took.
 ghost use Rattle.std.specs.Prelude.{◌≡◌, ◌+◌, ◌≤◌, ◌<◌, ◌^◌, ◌↔◌, length, take, IfSome};
-ghost use Rattle.std.specs.Prelude.{IsSome, IsTrue, MatchResult};
-ghost use Rattle.lw_types.specs.declared.refusal.Refusal.TheVariants.{OutOfMemory};
+ghost use Rattle.std.specs.Prelude.{true, IsSome, IsTrue, MatchResult};
+ghost use mathlib.Core.List.{IsPrefix};
+ghost use Rattle.lw_types.specs.declared.refusal.Refusal.TheVariants.{OutOfMemory, OutOfStep};
 ghost use Rattle.devices.specs.declared.command.Command.TheVariants as commands;
 ghost use Rattle.session_core.specs.Calls.{call_kind_of, work_of};
 ghost use Rattle.session_core.specs.Deciding.{after_taking};
 ghost use Rattle.session_core.specs.Events.{Asks, Hears, IsTurn, Ticks, next_due};
+ghost use Rattle.session_core.specs.History.{HasAllDecisions, LacksOnly};
+ghost use Rattle.session_core.specs.Observing.{IsSeenTurn, nothing_seen};
 ghost use Rattle.session_core.specs.Seats.{HasMade, made_by, new_seat};
+ghost use Rattle.session_core.specs.Taking.{DrawsNext, new_taker};
 ghost use Rattle.session_core.specs.declared.event.CallKind.TheVariants.{Asked, Heard, Ticked};
 
+use crate::history::HistoryHead;
+use crate::observed::Observed;
 use crate::{
-    Books, CallKind, ClosedFrame, Core, Event, LastCall, Made, Moment, Most, Outcome, Seat, Taken,
-    Taker, Turn,
+    BlankHistory, Books, CallKind, Core, Event, History, LastCall, Made, Moment, Most, Outcome,
+    Seat, Taken, Taker, Turn,
 };
 use devices::{Command, MacQueueing, Provisioning, Queueing};
 use lw_types::{FrameCopy, Refusal};
@@ -19,9 +25,14 @@ use sessions::Batch;
 use std::alloc::Global;
 use std::sync::ledger::{Blank, Book, Share};
 
+// The most decisions of which a history is known to be whole: more than a life makes in a hundred
+// years.
+const MOST_MADE: u64 = 1 << 62;
+
 /// A core with two books: the number of decisions made, which is the sum of the seats' shares, and
-/// the number of decisions taken, which is the taker's share. Each call costs as much as that of
-/// the core.
+/// the number of decisions taken, which is the taker's share. Beside them is the history of all
+/// decisions made, of which those that wait are the end. Each call costs as much as that of the
+/// core.
 #[derive(Drop)]
 pub struct Shared<B: Books> {
     core: Core,
@@ -30,6 +41,14 @@ pub struct Shared<B: Books> {
     // The parts of the seats that weren't given yet, and their number.
     spare: Share<Made<B>>,
     left: u64,
+    head: HistoryHead<B>,
+    history: History<B>,
+    // Whether the history has each decision. It always does, since nobody else adds to it. The
+    // toolchain has no form that says so.
+    is_whole: bool,
+    // Whether somebody observes which windows are closed.
+    is_observed: bool,
+    ghost history_is: { IsTrue is_whole → HasAllDecisions core.decisions history },
     ghost made_is: { core.decisions.made ≡ made.total },
     ghost taken_is: { core.decisions.taken ≡ taken.total },
     ghost spare_is: { spare.parts ≡ left },
@@ -39,7 +58,14 @@ pub struct Shared<B: Books> {
 impl<B: Books> Shared<B> {
     /// A core that has made and given no decision yet, with this number of seats to give, and the
     /// share of the taker. The blanks are those of the two ledgers. Takes no memory.
-    pub fn new(core: Core, seats: u64, made: Blank, taken: Blank) -> (Self, Taker<B>)
+    pub fn new(
+        core: Core,
+        seats: u64,
+        made: Blank,
+        taken: Blank,
+        history: BlankHistory,
+    ) -> (Self, Taker<B>)
+        requires history { history.seen.book ≡ B.history }
         requires none_made { core.decisions.made ≡ 0 }
         requires none_taken { core.decisions.taken ≡ 0 }
         requires made { (made.name ≡ B.made_name) × (made.parts ≡ B.made_parts)
@@ -47,18 +73,25 @@ impl<B: Books> Shared<B> {
         requires taken { (taken.name ≡ B.taken_name) × (taken.parts ≡ 1) }
         ensures core { result.0.core ≡ core }
         ensures left { result.0.left ≡ seats }
-        ensures taker { result.1 ≡ 0 }
+        ensures taker { result.1 ≡ new_taker }
     {
         let (made, spare) = made.open::<Made<B>>();
         let (taken, all) = taken.open::<Taken<B>>();
+        let (head, history) = history.named::<B>();
+        let taker = Taker::new(all, history.again());
+        let _ = core.made();
         let shared = Shared {
             core,
             made,
             taken,
             spare,
             left: seats,
+            head,
+            history,
+            is_whole: true,
+            is_observed: false,
         };
-        (shared, Taker::new(all))
+        (shared, taker)
     }
 
     /// A seat through which nothing was made yet. Takes no memory.
@@ -87,20 +120,13 @@ impl<B: Books> Shared<B> {
         &self.core
     }
 
-    /// From now on the frames whose windows are closed are kept ([`Core::observe`]).
+    /// From now on the frames whose windows are closed are returned ([`crate::Handled`]).
     pub fn observe(&mut self)
+        ensures observed { self.new.is_observed ≡ true }
         ensures core { self.new.core ≡ self.old.core }
         ensures left { self.new.left ≡ self.old.left }
     {
-        self.core.observe();
-    }
-
-    /// Returns the frames that were kept ([`Core::take_closed`]).
-    pub fn take_closed(&mut self) -> Vec<ClosedFrame>
-        ensures core { self.new.core ≡ self.old.core }
-        ensures left { self.new.left ≡ self.old.left }
-    {
-        self.core.take_closed()
+        self.is_observed = true;
     }
 
     /// An event comes ([`Core::handle`]).
@@ -109,10 +135,49 @@ impl<B: Books> Shared<B> {
         ensures share { HasMade seat.old seat.new moment (call_kind_of event) result }
         ensures left { self.new.left ≡ self.old.left }
     {
+        let mut observed = self.core.observed(false);
+        self.handle_seen(seat, moment, event, &mut observed)
+    }
+
+    // What observers are given before an event.
+    pub(crate) fn observed(&self) -> Observed
+        ensures { result ≡ nothing_seen self.now.is_observed }
+    {
+        self.core.observed(self.is_observed)
+    }
+
+    // An event comes, and somebody may observe which windows it closes.
+    pub(crate) fn handle_seen(
+        &mut self,
+        seat: &mut Seat<B>,
+        moment: Moment,
+        event: Event,
+        observed: &mut Observed,
+    ) -> Turn
+        ensures turn { IsSeenTurn self.old.core moment event result self.new.core
+            observed.old observed.new }
+        ensures share { HasMade seat.old seat.new moment (call_kind_of event) result }
+        ensures left { self.new.left ≡ self.old.left }
+    {
+        sessions::laws::joining();
+        let _ = self.core.outcomes();
         let kind = event.kind();
-        let turn = self.core.handle(moment, event);
+        let turn = self.core.handle_seen(moment, event, observed);
+        self.is_whole = extend(&self.head, &mut self.history, &self.core, self.is_whole);
         count(&mut self.made, seat, moment, kind, &turn);
         turn
+    }
+
+    /// The history, if it has each decision.
+    pub fn history(&self) -> Option<History<B>>
+        ensures { IfSome result (λ history. (history ≡ self.now.history)
+            × HasAllDecisions self.now.core.decisions history) }
+    {
+        if self.is_whole {
+            Some(self.history.again())
+        } else {
+            None
+        }
     }
 
     /// A gateway heard a frame ([`Core::hear`]).
@@ -163,24 +228,40 @@ impl<B: Books> Shared<B> {
         self.handle(seat, moment, Event::Ask(Command::QueueMac(value)))
     }
 
-    /// Takes the oldest untaken decisions, at most `max` of them ([`Core::take`]). After an `Err`,
-    /// which is out of memory, nothing has changed. The number taken before is the taker's share.
+    /// Takes the oldest untaken decisions, at most `max` of them ([`Core::take`]). After an `Err`
+    /// nothing has changed. It is `OutOfMemory`; or `OutOfStep` if the history lacks a decision
+    /// that was made, or one that an earlier take saw. This never happens, since nobody else adds
+    /// to it, but no clause says so.
     pub fn take(&mut self, taker: &mut Taker<B>, max: Most) -> Result<Batch, Refusal>
-        ensures before { self.old.core.decisions.taken ≡ taker.old }
-        ensures taken { MatchResult result
+        ensures before { self.old.core.decisions.taken ≡ taker.old.taken }
+        ensures core { MatchResult result
             (λ batch. (batch ≡ take max self.old.core.decisions.log)
             × (self.new.core ≡ record self.old.core
             { decisions = after_taking self.old.core.decisions max }))
-            (λ e. (e ≡ OutOfMemory) × (self.new.core ≡ self.old.core)) }
-        ensures share { MatchResult result
-            (λ batch. taker.new ≡ taker.old + length batch)
-            (λ _. taker.new ≡ taker.old) }
+            (λ _. self.new.core ≡ self.old.core) }
+        ensures taken { DrawsNext taker.old max result taker.new }
         ensures left { self.new.left ≡ self.old.left }
     {
         self.taken.audit(&mut taker.share);
+        let _ = self.core.made();
+        let history = self.history_after(&taker.seen)?;
         let batch = self.core.take(max)?;
         note(&mut self.taken, taker, batch.len() as u64);
+        taker.seen = history;
         Ok(batch)
+    }
+
+    // The history, if it has each decision and begins with what was seen.
+    fn history_after(&self, seen: &History<B>) -> Result<History<B>, Refusal>
+        ensures { MatchResult result
+            (λ history. (history ≡ self.now.history)
+            × (HasAllDecisions self.now.core.decisions history × IsPrefix seen.now history))
+            (λ e. e ≡ OutOfStep) }
+    {
+        match self.history() {
+            Some(history) if seen.begins(&history) => Ok(history),
+            _ => Err(Refusal::OutOfStep),
+        }
     }
 
     /// The outcomes of the last commands that were handed in to be decided ([`Core::outcomes`]);
@@ -258,6 +339,29 @@ fn gather_shares<B: Books>(
     left.checked_add(count) == Some(all)
 }
 
+// Adds the decisions of a core that a history lacks, if it was whole before these. Returns whether
+// it is whole now.
+fn extend<B: Books>(
+    head: &HistoryHead<B>,
+    history: &mut History<B>,
+    core: &Core,
+    was_whole: bool,
+) -> bool
+    requires { IsTrue was_whole → LacksOnly core.now.decisions history.old }
+    ensures { IsTrue result → HasAllDecisions core.now.decisions history.new }
+{
+    if !was_whole {
+        return false;
+    }
+    let first = history.len() - core.taken();
+    for place in first as usize..core.untaken() {
+        if history.len() >= MOST_MADE || !history.add(head, core.waiting(place)) {
+            return false;
+        }
+    }
+    true
+}
+
 // Counts a call and the decisions of its turn, and stores the call as the seat's last one.
 fn count<B: Books>(
     made: &mut Book<Made<B>>,
@@ -286,7 +390,7 @@ fn count<B: Books>(
 fn note<B: Books>(taken: &mut Book<Taken<B>>, taker: &mut Taker<B>, count: u64)
     requires { taken.old.total + count < 2 ^ 64 }
     ensures total { taken.new.total ≡ taken.old.total + count }
-    ensures share { taker.new ≡ taker.old + count }
+    ensures share { taker.new ≡ record taker.old { taken = taker.old.taken + count } }
 {
     taken.audit(&mut taker.share);
     taken.add(&mut taker.share, count);

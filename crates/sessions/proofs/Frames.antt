@@ -40,7 +40,7 @@ uplink-frame : (frame : DataFrame) (fctrl : Control) (u : declared.Uplink) → u
 uplink-frame frame (control.Downlink adr ack f_pending) u h = no_ok NotServed u _ h
 uplink-frame frame (control.Uplink adr asks acks) u h =
     let taken : declared.Uplink = record { frame = frame; adr_ack_req = asks; ack = acks } in
-    ap (λ (u : declared.Uplink). u.frame) (ok_is taken u (where_false (has_both frame.contents.f_opts frame.contents.message) (Ok taken) MacBoth u h))
+    ap (λ (u : declared.Uplink). u.frame) (ok_is taken u (where_false (has_both frame.contents.f_opts frame.contents.port_payload) (Ok taken) MacBoth u h))
 
 -- a Join-Request is no uplink
 no_request : (bytes : List ℕ) (u : declared.Uplink) (P : Type 0) → ◌≡◌ {A = Result Served Refusal} (Ok (Request bytes)) (Ok (Uplink u)) → P

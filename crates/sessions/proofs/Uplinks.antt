@@ -128,8 +128,8 @@ told-marks : (d : Device) (fit : Fit) (u : Uplink) (copies : ℕ) (best : Hearin
 told-marks d fit u copies best =
     let c : CurrentSession = session_after fit in
     behind_told d c (awaited_report d (is_acknowledgement fit u) d.awaited) (mac_report d c (reported_bytes (sent_commands c u)))
-    (forward_effects u.frame.dev_addr d c copies best u.frame.contents.message) (awaited-unmarked d (is_acknowledgement fit u) d.awaited)
-    (commands-unmarked d c (reported_bytes (sent_commands c u))) (forwarded-marks u.frame.dev_addr d c copies best u.frame.contents.message)
+    (forward_effects u.frame.dev_addr d c copies best u.frame.contents.port_payload) (awaited-unmarked d (is_acknowledgement fit u) d.awaited)
+    (commands-unmarked d c (reported_bytes (sent_commands c u))) (forwarded-marks u.frame.dev_addr d c copies best u.frame.contents.port_payload)
 
 -- ---- a new uplink
 

@@ -111,7 +111,7 @@ accept_downlink best frame =
       frequency = best.reception.frequency;
       data_rate = best.reception.data_rate;
       delay = 5;
-      windows = Rx1OrRx2;
+      receive_windows = Rx1OrRx2;
       frame = frame;
     }
 

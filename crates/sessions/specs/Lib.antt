@@ -9,3 +9,4 @@ pub mod Marks
 pub mod Leaving
 pub mod Placed
 pub mod Restored
+pub mod HeardStep

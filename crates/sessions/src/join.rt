@@ -206,7 +206,7 @@ fn accept_downlink(alloc: Global, best: Hearing, frame: &SealedAccept) -> Result
         frequency: best.reception.frequency,
         data_rate: best.reception.data_rate,
         delay: RxDelay::new(JOIN_ACCEPT_DELAY1).unwrap(),
-        windows: ReceiveWindows::Rx1OrRx2,
+        receive_windows: ReceiveWindows::Rx1OrRx2,
         frame: PhyPayload::from_slice(alloc, frame)?,
     })
 }

@@ -7,6 +7,7 @@
 
 mod batch;
 mod decision;
+mod heard_step;
 mod join;
 pub mod laws;
 mod placed;
@@ -16,6 +17,7 @@ mod table;
 
 pub use batch::{Batch, Most};
 pub use decision::Decision;
+pub use heard_step::HeardStep;
 pub use placed::Placed;
 pub use placed_batch::PlacedBatch;
 pub use table::{MOST_SLOTS, Question, Slots, Table};

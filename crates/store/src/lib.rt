@@ -20,9 +20,9 @@ mod preparing;
 mod publishing;
 mod recover;
 mod replacing;
-mod restore;
+mod area_table;
 mod store;
-mod taking_over;
+mod migrating;
 mod under_way;
 
 pub use areas::{LAST_GENERATION, LAST_OLD_GENERATION, RECORD_VERSION};

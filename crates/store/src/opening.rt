@@ -109,7 +109,7 @@ pub fn open_back<D: Disk>(alloc: Global, disk: D) -> Result<Store<D>, (D, Refusa
 
 impl Found {
     /// The store with what was found on this disk: as it is if its records are of the newest
-    /// version, otherwise after a checkpoint that takes it over.
+    /// version, otherwise after a checkpoint that migrates it.
     pub(crate) fn open<D: Disk>(
         self,
         alloc: Global,
@@ -121,7 +121,7 @@ impl Found {
         if self.version == NEWEST {
             return Ok(self.into_store(opening));
         }
-        self.take_over(alloc, opening)
+        self.migrate(alloc, opening)
     }
 
     // The store of the newest version with what was found on this disk.

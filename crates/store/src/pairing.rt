@@ -178,7 +178,7 @@ impl Paired {
                     phase,
                     commit: following,
                 };
-                Ok((store.take_over(commit), synced))
+                Ok((store.complete(commit), synced))
             }
             Err(_) => Err(store.fail()),
         }

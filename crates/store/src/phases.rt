@@ -188,7 +188,7 @@ impl GateWritten {
         match phase.sync(&mut store.log) {
             Ok(durable) => {
                 durable.finish();
-                Ok(store.take_over(commit))
+                Ok(store.complete(commit))
             }
             Err(_) => Err(store.fail()),
         }
@@ -228,9 +228,9 @@ impl<D: Disk> Store<D> {
         Refusal::DeviceFailed
     }
 
-    // Moves the records of a batch that is on the disk onto the table, and takes over the batch's
-    // number.
-    pub(crate) fn take_over(&mut self, commit: Commit) -> Durable
+    // Moves the records of a batch that is on the disk onto the table, and sets the
+    // batch's number.
+    pub(crate) fn complete(&mut self, commit: Commit) -> Durable
         requires fit { FitAll (store_state D.state self.old).table commit.batch }
         ensures store { store_state D.state self.new ≡ record (store_state D.state self.old) {
           table = table_after (store_state D.state self.old) (sequel_of commit);

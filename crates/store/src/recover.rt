@@ -19,7 +19,7 @@ ghost use Rattle.store.specs.Image.{AreAreas};
 
 use crate::areas::{first_area, last_generation, second_area};
 use crate::found::Found;
-use crate::restore::restore;
+use crate::area_table::area_table;
 use disk::Disk;
 use gate_log::{Area, Header, Live, Opening, RecoverError, Recovered};
 use lw_types::Refusal;
@@ -56,7 +56,7 @@ pub(crate) fn read_store<D: Disk>(alloc: Global, opening: &mut Opening<D>) -> Re
     laws::entries_keep_the_network();
     let front = read_store_front(opening)?;
     let recovered = recover(alloc, opening, front.live)?;
-    let (table, seq) = restore(alloc, &front.superblock, front.version, &recovered)?;
+    let (table, seq) = area_table(alloc, &front.superblock, front.version, &recovered)?;
     Ok(Found {
         table,
         seq,

@@ -12,7 +12,7 @@ ghost use Rattle.store.specs.declared.areas.TheConstants.{LAST_GENERATION};
 
 use crate::areas::LAST_GENERATION;
 use crate::formatting::shut;
-use crate::taking_over::publish;
+use crate::migrating::publish;
 use crate::{Store, laws};
 use disk::Disk;
 use lw_types::Refusal;

@@ -1,2 +1,3 @@
+mod Fronts
 pub mod OneMore
 pub mod RecordLines

@@ -1,2 +1,4 @@
+pub mod Cause
+pub mod Images
 pub mod Record
 pub mod Report

@@ -1,13 +1,16 @@
-// Why a store's file can't be made or restored.
+// Why a store's file can't be made, copied or restored.
+use crate::FileCause;
 use lw_types::{Eui, Refusal};
 
-/// Why a store's file can't be made or restored.
+/// Why a store's file can't be made, copied or restored.
 #[derive(Drop)]
 pub enum FileFault {
     /// The file exists already.
     Exists,
-    /// A file can't be made or opened, or another process has it.
-    File,
+    /// A file can't be made or opened, and why.
+    File(FileCause),
+    /// Each time that the store was read, another process wrote an area anew meanwhile.
+    Changing,
     /// The record of restores of this path can't be read or written.
     Record(String),
     /// This line of the record of this path isn't a DevEUI, a comma and a JoinNonce.

@@ -1,16 +1,24 @@
-//! Stores in files: how a new file of a store is made, and how an older copy of a lost store is
-//! restored, so that no JoinNonce comes back.
+//! Stores in files: how a new file of a store is made, how a store is copied while another process
+//! serves it, and how an older copy of a lost store is restored, so that no JoinNonce comes back.
 #![tactic(auto)]
 
+mod cause;
+mod copying;
 mod fault;
+mod image;
 mod new_file;
 mod read_only;
 mod record;
 mod report;
 mod restoring;
+mod source;
 
+pub use cause::FileCause;
+pub use copying::{CopiedStore, copied, copy_store};
 pub use fault::FileFault;
+pub use image::image_of;
 pub use new_file::{NewFile, create, remove_new};
 pub use read_only::ReadOnly;
 pub use record::{RECORD_NAME, session_in_line};
 pub use restoring::{RestoreRequest, RestoredStore, open_copy, restore};
+pub use source::{Source, StoreFile};

@@ -1,7 +1,7 @@
 // New files for stores.
 ghost use Rattle.std.specs.Prelude.{◌≡◌, IfOk};
 
-use crate::FileFault;
+use crate::{FileCause, FileFault};
 use disk::FileDisk;
 use sessions::Slots;
 use std::fs;
@@ -28,7 +28,7 @@ pub fn create<'a, R: Files<File = File>>(
     match FileDisk::create(rt, path, disk_len(slots)) {
         Ok(disk) => Ok((disk, NewFile { path })),
         Err(error) if error.kind() == ErrorKind::AlreadyExists => Err(FileFault::Exists),
-        Err(_) => Err(FileFault::File),
+        Err(error) => Err(FileFault::File(FileCause::of_new(error.kind()))),
     }
 }
 

@@ -6,11 +6,11 @@ ghost use Rattle.sessions.specs.Restored.{raised_by_all, restored_table, spent_d
 ghost use Rattle.sessions.specs.Table.{TableState};
 ghost use Rattle.store_files.specs.Report.{IsRestoredAs, restored_text};
 
-use crate::FileFault;
 use crate::new_file::{create, remove_new};
 use crate::read_only::ReadOnly;
 use crate::record::{NonceFile, Record, are_beside, is_record_name};
 use crate::report::report_of;
+use crate::{FileCause, FileFault};
 use devices::{Device, GrantsSince, SessionName};
 use disk::{Disk, FileDisk};
 use lw_types::Refusal;
@@ -190,6 +190,6 @@ pub fn open_copy<R: Files<File = File>>(
 ) -> Result<Store<ReadOnly<FileDisk>>, FileFault> {
     match FileDisk::open(rt, file) {
         Ok(disk) => Ok(open(alloc, ReadOnly::new(disk))?),
-        Err(_) => Err(FileFault::File),
+        Err(error) => Err(FileFault::File(FileCause::of_opening(error.kind()))),
     }
 }

@@ -1,5 +1,5 @@
 -- The first 32 bytes of a store, and where its areas lie.
-use Rattle.std.specs.Prelude.{ℕ, ◌+◌, ◌*◌, List, ◌∷◌, ◌++◌, replicate, codes}
+use Rattle.std.specs.Prelude.{ℕ, ◌+◌, ◌*◌, ◌≡◌, ◌⊎◌, List, ◌∷◌, ◌++◌, [], replicate, codes}
 use Rattle.std.specs.Int.{bytes_high_first}
 use Rattle.gate_log.specs.declared.layout.TheConstants.{OPEN, RECORDS_AT}
 use Rattle.store_layout.specs.declared.superblock.TheConstants.{JOURNAL_ROOM, RESERVED_ENTRY}
@@ -23,3 +23,8 @@ superblock_body net_id slots =
 -- the superblock of a formatted store: an open gate and its body
 abbrev pub superblock : ℕ → ℕ → List ℕ
 superblock net_id slots = OPEN ∷ superblock_body net_id slots
+
+-- a write opens the gate of an area, which is the area's first byte: of the area after the
+-- superblock, or of the one after that
+abbrev pub OpensArea : ℕ → ℕ → List ℕ → Type 0
+OpensArea slots at bytes = (bytes ≡ OPEN ∷ []) × ((at ≡ 32) ⊎ (at ≡ 32 + area_len slots))

@@ -9,4 +9,4 @@ mod superblock;
 pub use entries::{LONGEST_ENTRY, put_batch, put_entry, put_table};
 pub use record_codec::RecordVersion;
 pub use replaying::replay;
-pub use superblock::{JOURNAL_ROOM, RESERVED_ENTRY, Superblock};
+pub use superblock::{JOURNAL_ROOM, RESERVED_ENTRY, Superblock, opens_area};

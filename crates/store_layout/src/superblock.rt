@@ -1,10 +1,10 @@
 // The first bytes of a store.
 ghost use Rattle.std.specs.Prelude.{◌≡◌, ◌≢◌, ◌<◌, ◌≤◌, ◌^◌, ◌↔◌, ℕ, ◌∷◌, Ok, Err, IfOk, IfErr};
-ghost use Rattle.std.specs.Prelude.{◌⊎◌, codes, take, slice_index};
+ghost use Rattle.std.specs.Prelude.{◌⊎◌, codes, take, slice_index, IsTrue};
 ghost use Rattle.lw_types.specs.declared.refusal.Refusal.TheVariants.{NotFormatted, WrongVersion};
 ghost use Rattle.lw_types.specs.declared.refusal.Refusal.TheVariants.{Damaged};
 ghost use Rattle.sessions.specs.Table.{IsSlots};
-ghost use Rattle.store_layout.specs.Superblock.{superblock, area_len, disk_len};
+ghost use Rattle.store_layout.specs.Superblock.{superblock, area_len, disk_len, OpensArea};
 
 use gate_log::{OPEN, RECORDS_AT};
 use lw_types::{NetId, Refusal};
@@ -106,4 +106,15 @@ impl Superblock {
             Err(Refusal::Damaged)
         }
     }
+}
+
+/// Whether a write of these bytes opens the gate of an area, on a store's disk of this length. The
+/// last but one call of each checkpoint does so.
+pub fn opens_area(len: u64, at: u64, bytes: &[u8]) -> bool
+    ensures { (slots : ℕ) → len ≡ disk_len slots
+        → (IsTrue result ↔ OpensArea slots at bytes.now) }
+{
+    let first = Superblock::LEN as u64;
+    let area_len = len.saturating_sub(first) / 2;
+    bytes == [OPEN].as_slice() && (at == first || at == first + area_len)
 }

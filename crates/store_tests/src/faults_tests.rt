@@ -72,7 +72,7 @@ fn make(disk: &mut MemDisk, number: usize) -> Result<Option<Refusal>, Refusal> {
 }
 
 // Undoes what was changed in the 300 bytes from a place on.
-fn restore(disk: &mut MemDisk, image: &[u8], from: usize) -> Result<(), Refusal> {
+fn put_back(disk: &mut MemDisk, image: &[u8], from: usize) -> Result<(), Refusal> {
     let Some(was) = image.get(from..from.saturating_add(300)) else {
         return Err(Refusal::CutShort);
     };
@@ -97,8 +97,8 @@ fn counts(
         wanted = Some(Refusal::DeviceFailed);
     }
     let answer = opened(alloc, disk);
-    restore(disk, image, 0)?;
-    restore(disk, image, SECOND_AREA)?;
+    put_back(disk, image, 0)?;
+    put_back(disk, image, SECOND_AREA)?;
     Ok(wanted.is_some() && answer.err() == wanted)
 }
 

@@ -63,12 +63,12 @@ fn second_front(alloc: Global, old: Old) -> Result<Vec<u8>, Refusal> {
 fn old_disk(alloc: Global, old: Old) -> Result<MemDisk, Refusal> {
     let second = second_front(alloc, old)?;
     let mut disk = disk_of(alloc, first_front(alloc, old)?)?;
-    restore(&mut disk, &second)?;
+    put_back(&mut disk, &second)?;
     Ok(disk)
 }
 
 // Undoes what an opening changed.
-fn restore(disk: &mut MemDisk, second: &[u8]) -> Result<(), Refusal> {
+fn put_back(disk: &mut MemDisk, second: &[u8]) -> Result<(), Refusal> {
     put(disk, SECOND_AREA, second)?;
     disk.crash(&Image::New);
     Ok(())
@@ -128,7 +128,7 @@ const OF_CHECKPOINTS: &[Open] = &[
 fn calls_of(alloc: Global, disk: &mut MemDisk, second: &[u8]) -> Result<u64, Refusal> {
     for nth in 1..100 {
         let is_done = open_till(alloc, disk, nth)?;
-        restore(disk, second)?;
+        put_back(disk, second)?;
         if is_done {
             return Ok(nth);
         }
@@ -150,7 +150,7 @@ fn are_open(
         if open_till(alloc, disk, nth)? || open_positions(disk) != *open {
             return Ok(false);
         }
-        restore(disk, second)?;
+        put_back(disk, second)?;
     }
     Ok(true)
 }
@@ -161,7 +161,7 @@ fn opens(alloc: Global, old: Old, wanted: &[Open]) -> Result<bool, Refusal> {
 }
 
 #[test]
-fn taking_over_writes_what_the_layout_says(rt: HostRuntime) {
+fn migration_writes_what_the_layout_says(rt: HostRuntime) {
     assert!(rt; opens(rt.alloc(), Old::Batch, OF_BATCH) == Ok(true));
     assert!(rt; opens(rt.alloc(), Old::Checkpoints, OF_CHECKPOINTS) == Ok(true));
 }
@@ -183,7 +183,7 @@ fn is_kept(
         if found != (1, 1) || is_done {
             return Ok(found == (1, 1));
         }
-        restore(disk, second)?;
+        put_back(disk, second)?;
     }
     Ok(false)
 }
@@ -202,7 +202,7 @@ fn survives_all(alloc: Global, old: Old) -> bool {
 }
 
 #[test]
-fn a_call_that_fails_in_taking_over_changes_nothing(rt: HostRuntime) {
+fn a_call_that_fails_in_migration_changes_nothing(rt: HostRuntime) {
     assert!(rt; survives_all(rt.alloc(), Old::Batch));
     assert!(rt; survives_all(rt.alloc(), Old::Checkpoints));
 }

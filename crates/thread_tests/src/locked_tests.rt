@@ -9,8 +9,8 @@ use crate::asked::{
 use devices::{Command, Item};
 use lw_types::{Eui, Refusal};
 use session_core::{
-    Books, CallKind, Core, Event, LastCall, Moment, Most, Outcome, Seat, Sessions, Shared, Taker,
-    Turn,
+    BlankHistory, Books, CallKind, ClosedFrame, Core, Event, Handled, LastCall, Moment, Most,
+    Outcome, Seat, Sessions, Shared, Taker, Turn,
 };
 use sessions::{Batch, Decision};
 use std::alloc::Global;
@@ -175,6 +175,21 @@ fn call_kind_of(comes: &Comes) -> Result<CallKind, Refusal> {
     })
 }
 
+// Whether the history has each decision so far, and observers are given this number of frames, of
+// which none was decided if the turn made no decision.
+fn shows_all<B: Books>(handled: &Handled<B>, closings: usize) -> bool {
+    let made = match &handled.history {
+        Some(history) => history.len(),
+        None => return false,
+    };
+    let mut all = made == handled.turn.to && handled.closed.len() == closings;
+    let is_any_made = handled.turn.from < handled.turn.to;
+    for frame in &handled.closed {
+        all = all && (is_any_made || matches!(frame, ClosedFrame::Refused { .. }));
+    }
+    all && !handled.lacks_frames
+}
+
 // Whether two batches have the same decisions.
 fn are_same(a: &Batch, b: &Batch) -> bool {
     let mut same = a.len() == b.len();
@@ -239,7 +254,12 @@ impl<B: Books> Lives<'_, B> {
         let plain = answer(self.alloc, self.core, at, comes)?;
         let locked = if self.handles {
             let event = event_of(self.alloc, comes)?;
-            self.sessions.handle(rt, self.seat, at, event).turn
+            let handled = self.sessions.handle(rt, self.seat, at, event);
+            if !shows_all(&handled, self.core.closings()) {
+                let closed = handled.closed.len();
+                return Ok(Some(format!(in self.alloc; "{closed} frames, or no history")?));
+            }
+            handled.turn
         } else {
             locked_answer(rt, self.alloc, self.sessions, self.seat, at, comes)?
         };
@@ -308,17 +328,22 @@ impl<B: Books> Lives<'_, B> {
 fn plays<B: Books, R: Wait>(
     rt: &R,
     alloc: Global,
+    cores: (Core, Core),
     made: Blank,
     taken: Blank,
+    history: BlankHistory,
     script: u8,
     each: bool,
 ) -> Result<String, Refusal>
+    requires new { (cores.1.decisions.made ≡ 0) × (cores.1.decisions.taken ≡ 0) }
     requires made { (made.name ≡ B.made_name) × (made.parts ≡ B.made_parts) × (made.parts ≡ 1) }
     requires taken { (taken.name ≡ B.taken_name) × (taken.parts ≡ 1) }
+    requires history { history.seen.book ≡ B.history }
 {
-    let mut core = new_core(alloc, 8)?;
-    let (mut shared, mut taker) = Shared::<B>::new(new_core(alloc, 8)?, 1, made, taken);
+    let (mut core, locked) = cores;
+    let (mut shared, mut taker) = Shared::<B>::new(locked, 1, made, taken, history);
     let mut seat = shared.seat();
+    shared.observe();
     let sessions = Mutex::new(shared);
     let mut lives = Lives {
         alloc,
@@ -338,7 +363,10 @@ fn plays<B: Books, R: Wait>(
 
 // A life with one seat: what is wrong in it.
 fn plays_alone<R: Wait>(rt: &R, alloc: Global, script: u8, each: bool) -> Result<String, Refusal> {
-    plays::<Brand, R>(rt, alloc, Blank::new(1), Blank::new(1), script, each)
+    let cores = (new_core(alloc, 8)?, new_core(alloc, 8)?);
+    let (made, taken) = (Blank::new(1), Blank::new(1));
+    let history = BlankHistory::new();
+    plays::<Brand, R>(rt, alloc, cores, made, taken, history, script, each)
 }
 
 #[test]

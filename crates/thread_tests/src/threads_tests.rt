@@ -3,7 +3,7 @@ ghost use Rattle.std.specs.Prelude.{◌≡◌};
 
 use crate::asked::{moment, new_core, provisioning};
 use lw_types::Refusal;
-use session_core::{Books, Seat, Sessions, Shared};
+use session_core::{BlankHistory, Books, Core, Seat, Sessions, Shared};
 use std::alloc::Global;
 use std::marker::Brand;
 use std::sync::ledger::Blank;
@@ -31,13 +31,17 @@ fn provision_all<B: Books, R: Wait>(
 fn two_make<B: Books + Send + Sync, R: Threads + Wait + Sync>(
     rt: &R,
     alloc: Global,
+    core: Core,
     made: Blank,
     taken: Blank,
+    history: BlankHistory,
 ) -> Result<Option<u64>, Refusal>
+    requires new { (core.decisions.made ≡ 0) × (core.decisions.taken ≡ 0) }
     requires made { (made.name ≡ B.made_name) × (made.parts ≡ B.made_parts) × (made.parts ≡ 2) }
     requires taken { (taken.name ≡ B.taken_name) × (taken.parts ≡ 1) }
+    requires history { history.seen.book ≡ B.history }
 {
-    let (mut shared, taker) = Shared::<B>::new(new_core(alloc, 2000)?, 2, made, taken);
+    let (mut shared, taker) = Shared::<B>::new(core, 2, made, taken, history);
     let one = shared.seat();
     let other = shared.seat();
     let sessions = Mutex::new(shared);
@@ -58,7 +62,9 @@ fn two_make_together<R: Threads + Wait + Sync>(
     rt: &R,
     alloc: Global,
 ) -> Result<Option<u64>, Refusal> {
-    two_make::<Brand, R>(rt, alloc, Blank::new(2), Blank::new(1))
+    let core = new_core(alloc, 2000)?;
+    let (made, taken) = (Blank::new(2), Blank::new(1));
+    two_make::<Brand, R>(rt, alloc, core, made, taken, BlankHistory::new())
 }
 
 #[test]

@@ -76,7 +76,7 @@ mac_bytes addr c opts (Some sent) =
     sent.frm_payload else opts
 
 abbrev pub sent_commands : CurrentSession → Uplink → List ℕ
-sent_commands c u = mac_bytes u.frame.dev_addr c u.frame.contents.f_opts u.frame.contents.message
+sent_commands c u = mac_bytes u.frame.dev_addr c u.frame.contents.f_opts u.frame.contents.port_payload
 
 -- the commands that the network doesn't answer itself are reported, if there are any
 abbrev pub mac_report : Device → CurrentSession → List ℕ → List Effect
@@ -123,7 +123,7 @@ effects_before_answer d fit u copies best =
     let c = session_after fit in
     awaited_report d (is_acknowledgement fit u) d.awaited
     ++ (mac_report d c (reported_bytes (sent_commands c u))
-    ++ forward_effects u.frame.dev_addr d c copies best u.frame.contents.message)
+    ++ forward_effects u.frame.dev_addr d c copies best u.frame.contents.port_payload)
 
 abbrev pub with_effects : List Effect → DeviceStep → DeviceStep
 with_effects before o = device_step o.device (before ++ o.effects)

@@ -9,21 +9,21 @@ use Rattle.phy_payload.specs.declared.control.Control.TheVariants.{Uplink, Downl
 use Rattle.phy_payload.specs.declared.data_frame.DataFrame.{DataFrame}
 use Rattle.uplinks.specs.declared.uplink.Uplink as declared
 
--- whether a message is on port 0, which is that of MAC commands (§4.3.2)
+-- whether a port payload is on port 0, which is that of MAC commands (§4.3.2)
 abbrev pub is_on_port_0 : Option PortPayload → Bool
 is_on_port_0 None = false
 is_on_port_0 (Some sent) = sent.f_port == 0
 
 -- whether MAC commands are both in FOpts and on FPort 0, which is forbidden (§4.3.1.6)
 abbrev pub has_both : List ℕ → Option PortPayload → Bool
-has_both [] message = false
-has_both (byte ∷ opts) message = is_on_port_0 message
+has_both [] port_payload = false
+has_both (byte ∷ opts) port_payload = is_on_port_0 port_payload
 
 -- the uplink of a data frame
 abbrev pub uplink_with : DataFrame → Control → Result declared.Uplink Refusal
 uplink_with frame (Downlink adr ack f_pending) = Err NotServed
 uplink_with frame (Uplink adr asks acks) =
-    if has_both frame.contents.f_opts frame.contents.message then Err MacBoth
+    if has_both frame.contents.f_opts frame.contents.port_payload then Err MacBoth
     else Ok (record { frame = frame; adr_ack_req = asks; ack = acks })
 
 abbrev pub uplink_of : DataFrame → Result declared.Uplink Refusal

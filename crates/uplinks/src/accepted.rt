@@ -23,8 +23,8 @@ use phy_payload::DataFrameRef;
 use std::alloc::{AllocError, Global};
 
 impl NetworkSlot {
-    // Takes a new uplink: stores its session and counter, and answers the device.
-    pub(crate) fn take(
+    // Accepts a new uplink: stores its session and counter, and answers the device.
+    pub(crate) fn accept_uplink(
         &self,
         alloc: Global,
         device: &mut Device,
@@ -129,12 +129,12 @@ fn commands(
 ) -> Result<Payload, AllocError>
     ensures { IfOk result (λ bytes. bytes
         ≡ mac_bytes frame.now.dev_addr session.now frame.now.contents.f_opts
-        frame.now.contents.message) }
+        frame.now.contents.port_payload) }
 {
-    match frame.message() {
-        Some(message) if message.f_port == 0 => {
+    match frame.port_payload() {
+        Some(port_payload) if port_payload.f_port == 0 => {
             let key = &session.session.nwk_skey;
-            decrypted(alloc, key, session, frame.dev_addr(), message.frm_payload)
+            decrypted(alloc, key, session, frame.dev_addr(), port_payload.frm_payload)
         }
         Some(_) => Payload::from_slice(alloc, frame.f_opts()),
         None => Payload::from_slice(alloc, frame.f_opts()),
@@ -224,18 +224,18 @@ fn forward(
     requires { length effects.old < Effects.MOST }
     ensures told { OnOk result (effects.new ≡ effects.old
         ++ forward_effects heard.now.uplink.now.frame.dev_addr device.now session.now
-        heard.now.copies heard.now.best heard.now.uplink.now.frame.contents.message) }
+        heard.now.copies heard.now.best heard.now.uplink.now.frame.contents.port_payload) }
     ensures one { OnOk result (length effects.new ≤ length effects.old + 1) }
 {
     let frame = &heard.uplink.frame;
-    let Some(message) = frame.message() else {
+    let Some(port_payload) = frame.port_payload() else {
         return Ok(());
     };
-    let Some(port) = Port::new(u64::from(message.f_port)) else {
+    let Some(port) = Port::new(u64::from(port_payload.f_port)) else {
         return Ok(());
     };
     let key = &session.session.app_skey;
-    let payload = decrypted(alloc, key, session, frame.dev_addr(), message.frm_payload)?;
+    let payload = decrypted(alloc, key, session, frame.dev_addr(), port_payload.frm_payload)?;
     effects.push(Effect::Forward {
         application: device.application,
         session: SessionName {

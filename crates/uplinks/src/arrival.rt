@@ -10,11 +10,11 @@ pub struct NetworkSlot {
     pub slot: u16,
 }
 
-/// An uplink as it was received: `message` is all of its frame except the MIC.
+/// An uplink as it was received: `mic_input` is all of its frame except the MIC.
 #[derive(Clone, Copy)]
 pub struct ReceivedUplink<'a> {
     pub uplink: &'a Uplink<'a>,
-    pub message: &'a [u8],
+    pub mic_input: &'a [u8],
     pub hearings: &'a Hearings,
 }
 

@@ -3,7 +3,7 @@ ghost use Rattle.std.specs.Prelude.{◌≡◌, IfOk, None, Some};
 ghost use Rattle.counters.specs.Rebuilt.{rebuilt_counter};
 ghost use Rattle.uplinks.specs.Fit.{current_trial, fit_of, later_trial, if_signed, is_for};
 ghost use Rattle.uplinks.specs.Fit.{try_current, try_pending, verdict, pending_trial, IsOf};
-ghost use Rattle.uplinks.specs.Arrival.{IsMessageOf};
+ghost use Rattle.uplinks.specs.Arrival.{IsMicInputOf};
 
 use crate::arrival::NetworkSlot;
 use crate::laws::a_fit_is_of_its_device;
@@ -78,16 +78,16 @@ impl NetworkSlot {
         &self,
         activation: &Activation,
         frame: &DataFrameRef<'_>,
-        message: &[u8],
+        mic_input: &[u8],
     ) -> Result<Fit, Refusal>
-        requires { IsMessageOf frame.now message.now }
+        requires { IsMicInputOf frame.now mic_input.now }
         ensures value { result ≡ fit_of self.now.net_id self.now.slot activation.now frame.now }
         ensures of_device { IfOk result (λ fit. IsOf activation.now fit) }
     {
         a_fit_is_of_its_device();
         let (waiting, current) = (activation.pending(), activation.current());
-        let first = self.try_pending(waiting, frame, message);
-        let next = self.try_current(current, frame, message);
+        let first = self.try_pending(waiting, frame, mic_input);
+        let next = self.try_current(current, frame, mic_input);
         first.later_trial(next).verdict()
     }
 
@@ -96,13 +96,13 @@ impl NetworkSlot {
         &self,
         waiting: Option<Session>,
         frame: &DataFrameRef<'_>,
-        message: &[u8],
+        mic_input: &[u8],
     ) -> Trial
-        requires { IsMessageOf frame.now message.now }
+        requires { IsMicInputOf frame.now mic_input.now }
         ensures { result ≡ try_pending self.now.net_id self.now.slot waiting frame.now }
     {
         match waiting {
-            Some(session) if self.is_of(&session, frame) => try_first(session, frame, message),
+            Some(session) if self.is_of(&session, frame) => try_first(session, frame, mic_input),
             Some(_) => Trial::OtherDevAddr,
             None => Trial::OtherDevAddr,
         }
@@ -113,14 +113,14 @@ impl NetworkSlot {
         &self,
         current: Option<CurrentSession>,
         frame: &DataFrameRef<'_>,
-        message: &[u8],
+        mic_input: &[u8],
     ) -> Trial
-        requires { IsMessageOf frame.now message.now }
+        requires { IsMicInputOf frame.now mic_input.now }
         ensures { result ≡ try_current self.now.net_id self.now.slot current frame.now }
     {
         match current {
             Some(session) if self.is_of(&session.session, frame) => {
-                try_next(session, frame, message)
+                try_next(session, frame, mic_input)
             }
             Some(_) => Trial::OtherDevAddr,
             None => Trial::OtherDevAddr,
@@ -137,14 +137,14 @@ impl NetworkSlot {
 }
 
 // Tries an uplink in a pending session that has its address.
-fn try_first(session: Session, frame: &DataFrameRef<'_>, message: &[u8]) -> Trial
-    requires { IsMessageOf frame.now message.now }
+fn try_first(session: Session, frame: &DataFrameRef<'_>, mic_input: &[u8]) -> Trial
+    requires { IsMicInputOf frame.now mic_input.now }
     ensures { result ≡ pending_trial session frame.now (rebuilt_counter None frame.now.f_cnt) }
 {
     match rebuild(None, frame.f_cnt()) {
         Rebuilt::New(counter) => {
             let fit = Fit::First { session, counter };
-            if_signed(&session, counter, frame, message, fit)
+            if_signed(&session, counter, frame, mic_input, fit)
         }
         Rebuilt::Repeat => Trial::BadCounter,
         Rebuilt::Gap => Trial::BadCounter,
@@ -153,8 +153,8 @@ fn try_first(session: Session, frame: &DataFrameRef<'_>, message: &[u8]) -> Tria
 
 // Tries an uplink in a current session that has its address. A repeated uplink has the last
 // counter.
-fn try_next(current: CurrentSession, frame: &DataFrameRef<'_>, message: &[u8]) -> Trial
-    requires { IsMessageOf frame.now message.now }
+fn try_next(current: CurrentSession, frame: &DataFrameRef<'_>, mic_input: &[u8]) -> Trial
+    requires { IsMicInputOf frame.now mic_input.now }
     ensures { result ≡ current_trial current frame.now
         (rebuilt_counter (Some current.last_up) frame.now.f_cnt) }
 {
@@ -164,11 +164,11 @@ fn try_next(current: CurrentSession, frame: &DataFrameRef<'_>, message: &[u8]) -
                 session: current,
                 counter,
             };
-            if_signed(&current.session, counter, frame, message, fit)
+            if_signed(&current.session, counter, frame, mic_input, fit)
         }
         Rebuilt::Repeat => {
             let fit = Fit::Again { session: current };
-            if_signed(&current.session, current.last_up, frame, message, fit)
+            if_signed(&current.session, current.last_up, frame, mic_input, fit)
         }
         Rebuilt::Gap => Trial::BadCounter,
     }
@@ -179,14 +179,14 @@ fn if_signed(
     session: &Session,
     counter: u32,
     frame: &DataFrameRef<'_>,
-    message: &[u8],
+    mic_input: &[u8],
     fit: Fit,
 ) -> Trial
-    requires { IsMessageOf frame.now message.now }
+    requires { IsMicInputOf frame.now mic_input.now }
     ensures { result ≡ if_signed session.now counter frame.now fit }
 {
     let key = &session.nwk_skey;
-    let mic = data_mic(key, Direction::Up, frame.dev_addr(), counter, message);
+    let mic = data_mic(key, Direction::Up, frame.dev_addr(), counter, mic_input);
     if frame.mic().0 == mic {
         Trial::Fits(fit)
     } else {

@@ -36,7 +36,7 @@ pub fn receive_uplink(
     device: &Device,
     received: &ReceivedUplink<'_>,
 ) -> Result<(Device, Effects), Refusal>
-    requires { received.now.message.now ≡ data_mic_input received.now.uplink.now.frame }
+    requires { received.now.mic_input.now ≡ data_mic_input received.now.uplink.now.frame }
     ensures { Answers (uplink_at place.now.net_id place.now.slot device.now
         received.now.hearings.now received.now.uplink.now) IsDeviceStep result }
 {
@@ -47,7 +47,7 @@ pub fn receive_uplink(
         copies: received.hearings.copies(),
         best: received.hearings.best(),
     };
-    match place.fit(&device.activation, &uplink.frame, received.message) {
+    match place.fit(&device.activation, &uplink.frame, received.mic_input) {
         Ok(fit) if fit.is_on_channel(&heard.best) => place.enter(alloc, device, fit, &heard),
         Ok(_) => Err(Refusal::UnknownChannel),
         Err(refusal) => Err(refusal),
@@ -106,7 +106,7 @@ impl NetworkSlot {
     {
         let mut after = device.copy()?;
         let mut effects = Effects::empty(alloc);
-        self.take(alloc, &mut after, &mut effects, fit, heard)?;
+        self.accept_uplink(alloc, &mut after, &mut effects, fit, heard)?;
         Ok((after, effects))
     }
 

@@ -1,6 +1,6 @@
 // Data frames from devices (TS001-1.0.4 §4.3).
 ghost use Rattle.std.specs.Prelude.{◌≡◌};
-ghost use Rattle.phy_payload.specs.Seen.{seen_message};
+ghost use Rattle.phy_payload.specs.Seen.{seen_port_payload};
 ghost use Rattle.uplinks.specs.Uplink.{has_both, is_on_port_0, uplink_of};
 
 use lw_types::Refusal;
@@ -43,17 +43,17 @@ impl<'a> Uplink<'a> {
 
 // Whether MAC commands are both in FOpts and on FPort 0.
 fn has_both(frame: &DataFrameRef<'_>) -> bool
-    ensures { result ≡ has_both frame.now.contents.f_opts frame.now.contents.message }
+    ensures { result ≡ has_both frame.now.contents.f_opts frame.now.contents.port_payload }
 {
-    !frame.f_opts().is_empty() && is_on_port_0(frame.message())
+    !frame.f_opts().is_empty() && is_on_port_0(frame.port_payload())
 }
 
-// Whether a message is on port 0.
-fn is_on_port_0(message: Option<PortPayloadRef<'_>>) -> bool
-    ensures { result ≡ is_on_port_0 (seen_message message.entry) }
+// Whether a port payload is on port 0.
+fn is_on_port_0(port_payload: Option<PortPayloadRef<'_>>) -> bool
+    ensures { result ≡ is_on_port_0 (seen_port_payload port_payload.entry) }
 {
-    match message {
+    match port_payload {
         None => false,
-        Some(message) => message.f_port == 0,
+        Some(port_payload) => port_payload.f_port == 0,
     }
 }

@@ -9,11 +9,11 @@ use Rattle.lw_types.specs.declared.refusal.Refusal.TheVariants.{OutOfMemory}
 use Rattle.gateway_wire.specs.Emission.{emission}
 use Rattle.world.specs.declared.answer.Answer.{Answer}
 use Rattle.world.specs.declared.answer.Answer.TheVariants as answers
-use Rattle.world.specs.declared.place.Place.{Place}
-use Rattle.world.specs.declared.place.Place.TheVariants.{Open, Closed, Crashing}
+use Rattle.world.specs.declared.condition.Condition.{Condition}
+use Rattle.world.specs.declared.condition.Condition.TheVariants.{Open, Closed, Crashing}
 use Rattle.world.specs.Course.{Origin, Course}
 use Rattle.world.specs.Answers.{AnswersEmit}
-use Rattle.world.specs.Follows.{FollowsPlace}
+use Rattle.world.specs.Follows.{FollowsCondition}
 use Rattle.world.proofs.Shapes.{same-life}
 
 abbrev each : {A B : Type 0} → (A → B) → Option A → Option B
@@ -47,8 +47,8 @@ emits origin c items n released answer left emitted there right =
     (sym next) right
 
 -- how much was emitted doesn't matter to where the world is
-pub same_place : {D : Type 0} {g : _} (state : D → State) (origin : Origin) (c : Course) (n : ℕ) (place : Place D g) → FollowsPlace state origin c place
-    → FollowsPlace state origin (record c { emitted = n }) place
-same_place state origin c n (Open life) (is, (f, listens)) = (is, (same-life f, record { clock = listens.clock; windows = listens.windows; said = listens.said }))
-same_place state origin c n (Closed disk) f = f
-same_place state origin c n Crashing f = f
+pub same_condition : {D : Type 0} {g : _} (state : D → State) (origin : Origin) (c : Course) (n : ℕ) (condition : Condition D g) → FollowsCondition state origin c condition
+    → FollowsCondition state origin (record c { emitted = n }) condition
+same_condition state origin c n (Open life) (is, (f, listens)) = (is, (same-life f, record { clock = listens.clock; windows = listens.windows; said = listens.said }))
+same_condition state origin c n (Closed disk) f = f
+same_condition state origin c n Crashing f = f

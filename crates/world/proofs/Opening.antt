@@ -11,8 +11,8 @@ use Rattle.world.specs.Folding.{RunLaws}
 use Rattle.session_core.specs.State.{new_decisions}
 use Rattle.store.specs.Image.{HoldsTable}
 use Rattle.store.specs.State.{StoreState, IsOpened, IsSettled}
-use Rattle.world.specs.declared.place.Place.{Place}
-use Rattle.world.specs.declared.place.Place.TheVariants.{Open, Closed, Crashing}
+use Rattle.world.specs.declared.condition.Condition.{Condition}
+use Rattle.world.specs.declared.condition.Condition.TheVariants.{Open, Closed, Crashing}
 use Rattle.world.specs.declared.answer.Answer.{Answer}
 use Rattle.world.specs.declared.answer.Answer.TheVariants as answers
 use Rattle.world.specs.declared.step.Step.TheVariants as steps
@@ -22,7 +22,7 @@ use Rattle.world.specs.Commits.{at_rest}
 use Rattle.world.specs.Sound.{HasDisk}
 use Rattle.world.specs.Tells.{IsOpenedFrom}
 use Rattle.sessions.specs.Marks.{IsSubsequence}
-use Rattle.world.specs.Follows.{FollowsPlace, IsLife, Survives}
+use Rattle.world.specs.Follows.{FollowsCondition, IsLife, Survives}
 use Rattle.world.proofs.Calling.{held}
 use Rattle.world.proofs.Flights.{kept_front, kept_once}
 
@@ -91,8 +91,8 @@ two_reasons DeviceFailed h = inr refl
 two_reasons e h = absurd (h (λ p. let n = ap number_of p in absurd (omega (arith, n))) (λ p. let n = ap number_of p in absurd (omega (arith, n))))
 
 -- the disk that comes out of a world has what a crash may leave
-pub disk_survives : {D : Type 0} {g : _} (state : D → State) (origin : Origin) (c : Course) (place : Place D g) (disk : D)
-    → FollowsPlace state origin c place → HasDisk place disk → Survives origin c (state disk)
+pub disk_survives : {D : Type 0} {g : _} (state : D → State) (origin : Origin) (c : Course) (condition : Condition D g) (disk : D)
+    → FollowsCondition state origin c condition → HasDisk condition disk → Survives origin c (state disk)
 disk_survives state origin c (Open life) disk f is = subst (λ d. Survives origin c (state d)) (sym is) f.1.0.survives
 disk_survives state origin c (Closed d) disk f is = subst (λ d. Survives origin c (state d)) (sym is) f.1
 disk_survives state origin c Crashing disk f is = absurd f

@@ -5,7 +5,7 @@ use Rattle.disk.specs.declared.disk.Disk.{Ghosts}
 use Rattle.disk.specs.State.{State}
 use Rattle.world.specs.declared.answer.Answer.{Answer}
 use Rattle.world.specs.declared.step.Step.{Step}
-use Rattle.world.specs.declared.place.Place.{Place}
+use Rattle.world.specs.declared.condition.Condition.{Condition}
 use Rattle.world.specs.declared.world.World.{World}
 use Rattle.world.specs.Calls.{CallRecord, calls_after, calls_of, IsForetold, AreForetold, AreCallsAt, ForetellsAt, ForetellsAll}
 use Rattle.world.specs.Course.{Origin, Course, course_after, course_of}
@@ -42,7 +42,7 @@ one_told calls (s ∷ steps) [] step answer before told = absurd before
 one_told calls (s ∷ steps) (a ∷ answers) step answer before told =
     let rest = one_told (calls_after calls s a) steps answers step answer before.1 told in ((before.0, rest.0), rest.1)
 
-pub foretells_on : {D : Type 0} {g : _} (failures : D → ℕ) (outlook : D → Outlook) (old mid new : Place D g) (steps : List Step) (answers : List Answer)
+pub foretells_on : {D : Type 0} {g : _} (failures : D → ℕ) (outlook : D → Outlook) (old mid new : Condition D g) (steps : List Step) (answers : List Answer)
     (step : Step) (answer : Answer) → ForetellsAll failures outlook old steps answers mid → ForetellsAt failures outlook mid step answer new
     → ForetellsAll failures outlook old (steps ++ step ∷ []) (answers ++ answer ∷ []) new
 foretells_on failures outlook old mid new steps answers step answer run move calls known =

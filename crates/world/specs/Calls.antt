@@ -8,7 +8,7 @@ use Rattle.world.specs.declared.answer.Answer.{Answer}
 use Rattle.world.specs.declared.answer.Answer.TheVariants as answers
 use Rattle.world.specs.declared.step.Step.{Step}
 use Rattle.world.specs.declared.step.Step.TheVariants as steps
-use Rattle.world.specs.declared.place.Place.{Place}
+use Rattle.world.specs.declared.condition.Condition.{Condition}
 use Rattle.world.specs.Sound.{HasDisk}
 
 -- how many calls have failed, and what the coming ones will return
@@ -101,10 +101,10 @@ pub record AreRecordedCalls (calls : CallRecord) (failures : ℕ) (outlook : Out
   pub known : IsKnownOutlook calls.coming outlook
 
 -- those of the disk of a world
-abbrev pub AreCallsAt : {D : Type 0} {g : _} → (D → ℕ) → (D → Outlook) → CallRecord → Place D g
+abbrev pub AreCallsAt : {D : Type 0} {g : _} → (D → ℕ) → (D → Outlook) → CallRecord → Condition D g
     → Type 0
-AreCallsAt {D} failures outlook calls place =
-    (disk : D) → HasDisk place disk → AreRecordedCalls calls (failures disk) (outlook disk)
+AreCallsAt {D} failures outlook calls condition =
+    (disk : D) → HasDisk condition disk → AreRecordedCalls calls (failures disk) (outlook disk)
 
 -- A step with this disk before and that disk after: for everything known of the disk's calls, the
 -- answer is as foretold, and what the answer says of them is true.
@@ -116,22 +116,22 @@ Foretells failures outlook before step answer now =
 
 -- the same of an opening of a disk that crashed to this image
 abbrev pub ForetellsOpening : {D : Type 0} {g : _} → (D → ℕ) → (D → Outlook) → D → Answer
-    → Place D g → Type 0
-ForetellsOpening failures outlook disk answer place =
+    → Condition D g → Type 0
+ForetellsOpening failures outlook disk answer condition =
     (image : Image) (calls : CallRecord) → AreRecordedCalls calls (failures disk) (outlook disk)
     → IsForetold calls (steps.Crash image) answer
-    × AreCallsAt failures outlook (calls_after calls (steps.Crash image) answer) place
+    × AreCallsAt failures outlook (calls_after calls (steps.Crash image) answer) condition
 
 -- of a step of a world
-abbrev pub ForetellsAt : {D : Type 0} {g : _} → (D → ℕ) → (D → Outlook) → Place D g → Step → Answer
-    → Place D g → Type 0
+abbrev pub ForetellsAt : {D : Type 0} {g : _} → (D → ℕ) → (D → Outlook) → Condition D g → Step → Answer
+    → Condition D g → Type 0
 ForetellsAt failures outlook old step answer new =
     (calls : CallRecord) → AreCallsAt failures outlook calls old
     → IsForetold calls step answer × AreCallsAt failures outlook (calls_after calls step answer) new
 
 -- and of a run of steps
-abbrev pub ForetellsAll : {D : Type 0} {g : _} → (D → ℕ) → (D → Outlook) → Place D g → List Step
-    → List Answer → Place D g → Type 0
+abbrev pub ForetellsAll : {D : Type 0} {g : _} → (D → ℕ) → (D → Outlook) → Condition D g → List Step
+    → List Answer → Condition D g → Type 0
 ForetellsAll failures outlook old steps answers new =
     (calls : CallRecord) → AreCallsAt failures outlook calls old
     → AreForetold calls steps answers

@@ -1,4 +1,4 @@
--- What a world is at a place of its course.
+-- What a world is at a point of its course.
 use Rattle.std.specs.Prelude.{◌≡◌, ◌+◌, ◌⊎◌, ℕ, true, false, List, [], ◌∷◌, ◌++◌, Option, None}
 use Rattle.devices.specs.declared.command.Command.{Command}
 use Rattle.dedup.specs.Windows.{StandFor}
@@ -23,8 +23,8 @@ use Rattle.world.specs.declared.commit.LastCommit.{LastCommit}
 use Rattle.world.specs.declared.commit.LastCommit.TheVariants as commits
 use Rattle.world.specs.declared.commit.Pipeline.{Pipeline}
 use Rattle.world.specs.declared.life.Life.{Life}
-use Rattle.world.specs.declared.place.Place.{Place}
-use Rattle.world.specs.declared.place.Place.TheVariants.{Open, Closed, Crashing}
+use Rattle.world.specs.declared.condition.Condition.{Condition}
+use Rattle.world.specs.declared.condition.Condition.TheVariants.{Open, Closed, Crashing}
 use Rattle.world.specs.declared.world.World.{World}
 use Rattle.world.specs.declared.answer.EventTurn.{EventTurn}
 use Rattle.world.specs.declared.step.Step.{Step}
@@ -114,16 +114,16 @@ abbrev pub FollowsClosed : {D : Type 0} → (D → State) → Origin → Course 
 FollowsClosed state origin c disk =
     (c.is_open ≡ false) × Survives origin c (state disk)
 
-abbrev pub FollowsPlace : {D : Type 0} {g : _} → (D → State) → Origin → Course → Place D g → Type 0
-FollowsPlace state origin c (Open life) = (c.is_open ≡ true) × FollowsLife state origin c life
-FollowsPlace state origin c (Closed disk) = FollowsClosed state origin c disk
-FollowsPlace state origin c Crashing = ⊥
+abbrev pub FollowsCondition : {D : Type 0} {g : _} → (D → State) → Origin → Course → Condition D g → Type 0
+FollowsCondition state origin c (Open life) = (c.is_open ≡ true) × FollowsLife state origin c life
+FollowsCondition state origin c (Closed disk) = FollowsClosed state origin c disk
+FollowsCondition state origin c Crashing = ⊥
 
 -- The world is in the state that its course says. What has left over all lives is part of the
 -- effects of commands that every crash leaves.
 pub record Follows {D : Type 0} {g : _} (state : D → State) (origin : Origin) (c : Course)
     (world : World D g) : Type 0 where
-  pub place : FollowsPlace state origin c world.place
+  pub condition : FollowsCondition state origin c world.condition
   pub left : c.left ≡ effects_of_all world.released.items
   pub emitted : c.emitted ≡ world.emitted
   pub once : IsSubsequence c.left (effects_from origin c.settled)
@@ -187,23 +187,23 @@ IsLeft origin c table seq =
     × (seq ≡ number_from origin kept)
 
 -- an opening with this answer led here
-abbrev pub IsOpenedPlace : {D : Type 0} {g : _} → (D → State) → Origin → Course → Answer → Place D g
+abbrev pub IsOpenedCondition : {D : Type 0} {g : _} → (D → State) → Origin → Course → Answer → Condition D g
     → Type 0
-IsOpenedPlace state origin c answer place =
+IsOpenedCondition state origin c answer condition =
     AnswersCrash origin c answer
-    × ((image : Image) → FollowsPlace state origin
-    (course_after origin c (steps.Crash image) answer) place)
+    × ((image : Image) → FollowsCondition state origin
+    (course_after origin c (steps.Crash image) answer) condition)
 
 -- the same for a disk after a crash
-abbrev pub Reopens : {D : Type 0} {g : _} → (D → State) → D → Answer → Place D g → Type 0
-Reopens state disk answer place =
+abbrev pub Reopens : {D : Type 0} {g : _} → (D → State) → D → Answer → Condition D g → Type 0
+Reopens state disk answer condition =
     (origin : Origin) (c : Course) → NothingOpen (state disk) → Survives origin c (state disk)
-    → IsOpenedPlace state origin c answer place
+    → IsOpenedCondition state origin c answer condition
 
 -- and for a store that was opened
-abbrev pub IsBegunPlace : {D : Type 0} {g : _} → (D → State) → Store D g → Answer → Place D g
+abbrev pub IsBegunCondition : {D : Type 0} {g : _} → (D → State) → Store D g → Answer → Condition D g
     → Type 0
-IsBegunPlace state store answer place =
+IsBegunCondition state store answer condition =
     (origin : Origin) (c : Course)
     → IsLeft origin c (store_state state store).table (store_state state store).seq
-    → IsOpenedPlace state origin c answer place
+    → IsOpenedCondition state origin c answer condition

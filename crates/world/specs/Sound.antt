@@ -8,8 +8,8 @@ use Rattle.store.specs.State.{store_state, disk_of}
 use Rattle.world.specs.Commits.{IsBehind, MayGoOn, flights_begun}
 use Rattle.world.specs.declared.commit.Pipeline.{Pipeline}
 use Rattle.world.specs.declared.life.Life.{Life}
-use Rattle.world.specs.declared.place.Place.{Place}
-use Rattle.world.specs.declared.place.Place.TheVariants.{Open, Closed, Crashing}
+use Rattle.world.specs.declared.condition.Condition.{Condition}
+use Rattle.world.specs.declared.condition.Condition.TheVariants.{Open, Closed, Crashing}
 use Rattle.world.specs.declared.world.World.{World}
 
 -- what is under way is the store's, and a batch is ahead of only one
@@ -27,22 +27,22 @@ HasRoomForEach (flight ∷ flights) there fit = there + MOST_EFFECTS * length (f
 abbrev pub HasRoom : Pipeline → ℕ → ℕ → Type 0
 HasRoom commits there fit = HasRoomForEach (flights_begun commits) there fit
 
-abbrev pub IsSoundPlace : {D : Type 0} {g : _} → (D → State) → Place D g → ℕ → ℕ → Type 0
-IsSoundPlace state (Open life) there fit = IsSoundLife state life × HasRoom life.commits there fit
-IsSoundPlace state (Closed disk) there fit = Unit {0}
-IsSoundPlace state Crashing there fit = ⊥
+abbrev pub IsSoundCondition : {D : Type 0} {g : _} → (D → State) → Condition D g → ℕ → ℕ → Type 0
+IsSoundCondition state (Open life) there fit = IsSoundLife state life × HasRoom life.commits there fit
+IsSoundCondition state (Closed disk) there fit = Unit {0}
+IsSoundCondition state Crashing there fit = ⊥
 
 abbrev pub IsSoundWorld : {D : Type 0} {g : _} → (D → State) → World D g → Type 0
 IsSoundWorld state world =
-    IsSoundPlace state world.place (length world.released.items) (vec_capacity world.released)
+    IsSoundCondition state world.condition (length world.released.items) (vec_capacity world.released)
 
 -- not within a crash
-abbrev pub IsSomewhere : {D : Type 0} {g : _} → Place D g → Type 0
+abbrev pub IsSomewhere : {D : Type 0} {g : _} → Condition D g → Type 0
 IsSomewhere (Open life) = Unit {0}
 IsSomewhere (Closed disk) = Unit {0}
 IsSomewhere Crashing = ⊥
 
-abbrev pub HasDisk : {D : Type 0} {g : _} → Place D g → D → Type 0
+abbrev pub HasDisk : {D : Type 0} {g : _} → Condition D g → D → Type 0
 HasDisk (Open life) disk = disk ≡ disk_of life.store
 HasDisk (Closed d) disk = disk ≡ d
 HasDisk Crashing disk = ⊥

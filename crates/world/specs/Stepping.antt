@@ -3,7 +3,7 @@ use Rattle.std.specs.Prelude.{◌≡◌, List, [], ◌∷◌}
 use Rattle.disk.specs.declared.disk.Disk.{Ghosts}
 use Rattle.world.specs.Calls.{ForetellsAt}
 use Rattle.world.specs.Follows.{Moves}
-use Rattle.world.specs.Tells.{PlaceTellsRoom, LeavesImage}
+use Rattle.world.specs.Tells.{ConditionTellsRoom, LeavesImage}
 use Rattle.world.specs.declared.answer.Answer.{Answer}
 use Rattle.world.specs.declared.step.Step.{Step}
 use Rattle.world.specs.declared.world.World.{World}
@@ -15,9 +15,9 @@ use Rattle.world.specs.declared.world.World.{World}
 pub record MakesStep {D : Type 0} (disk : Ghosts D) (old : World D disk) (step : Step)
     (answer : Answer) (new : World D disk) : Type 0 where
   pub moves : Moves disk.state old step answer new
-  pub calls : ForetellsAt disk.failures disk.outlook old.place step answer new.place
-  pub room : PlaceTellsRoom disk.state old.place step answer
-  pub image : LeavesImage disk.state old.place step new.place
+  pub calls : ForetellsAt disk.failures disk.outlook old.condition step answer new.condition
+  pub room : ConditionTellsRoom disk.state old.condition step answer
+  pub image : LeavesImage disk.state old.condition step new.condition
 
 -- it makes these, each as the world that the one before made of it
 abbrev pub MakesSteps : {D : Type 0} (disk : Ghosts D) → World D disk → List Step → List Answer

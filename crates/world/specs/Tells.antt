@@ -15,8 +15,8 @@ use Rattle.store.specs.declared.areas.TheConstants.{LAST_GENERATION}
 use Rattle.world.specs.Commits.{at_gate}
 use Rattle.world.specs.Sound.{HasDisk}
 use Rattle.world.specs.declared.commit.Pipeline.{Pipeline}
-use Rattle.world.specs.declared.place.Place.{Place}
-use Rattle.world.specs.declared.place.Place.TheVariants.{Open, Closed, Crashing}
+use Rattle.world.specs.declared.condition.Condition.{Condition}
+use Rattle.world.specs.declared.condition.Condition.TheVariants.{Open, Closed, Crashing}
 use Rattle.world.specs.declared.answer.Answer.{Answer}
 use Rattle.world.specs.declared.answer.Answer.TheVariants as answers
 use Rattle.world.specs.declared.step.Step.{Step}
@@ -64,11 +64,11 @@ TellsRoom s commits (steps.Next most) answer = NextTells s commits answer
 TellsRoom s commits steps.Checkpoint answer = CheckpointTells s answer
 TellsRoom s commits step answer = Unit {0}
 
-abbrev pub PlaceTellsRoom : {D : Type 0} {g : _} → (D → State) → Place D g → Step → Answer → Type 0
-PlaceTellsRoom state (Open life) step answer =
+abbrev pub ConditionTellsRoom : {D : Type 0} {g : _} → (D → State) → Condition D g → Step → Answer → Type 0
+ConditionTellsRoom state (Open life) step answer =
     TellsRoom (store_state state life.store) life.commits step answer
-PlaceTellsRoom state (Closed disk) step answer = Unit {0}
-PlaceTellsRoom state Crashing step answer = Unit {0}
+ConditionTellsRoom state (Closed disk) step answer = Unit {0}
+ConditionTellsRoom state Crashing step answer = Unit {0}
 
 -- A store was opened from these bytes, or its opening was refused. The content changed only if the
 -- records are of an older version, and each image that a crash may leave holds the table that the
@@ -78,12 +78,12 @@ pub record IsOpenedFrom (left : List ℕ) (now : State) : Type 0 where
   pub keeps : StillHolds left now
 
 -- the disk of a world has crashed to this image, and a store was opened from what was left
-abbrev pub CrashesTo : {D : Type 0} {g : _} → (D → State) → Image → Place D g → Place D g → Type 0
+abbrev pub CrashesTo : {D : Type 0} {g : _} → (D → State) → Image → Condition D g → Condition D g → Type 0
 CrashesTo {D} state image old new =
     (before now : D) → HasDisk old before → HasDisk new now
     → (left : List ℕ) × IsCrashed image (state before) left × IsOpenedFrom left (state now)
 
 -- a crash leaves the image that it names
-abbrev pub LeavesImage : {D : Type 0} {g : _} → (D → State) → Place D g → Step → Place D g → Type 0
+abbrev pub LeavesImage : {D : Type 0} {g : _} → (D → State) → Condition D g → Step → Condition D g → Type 0
 LeavesImage state old (steps.Crash image) new = CrashesTo state image old new
 LeavesImage state old step new = Unit {0}

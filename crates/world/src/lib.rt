@@ -7,7 +7,7 @@ mod commit;
 pub mod laws;
 mod life;
 mod links;
-mod place;
+mod condition;
 mod runs;
 mod step;
 mod turns;

@@ -46,8 +46,8 @@ pub fn run<D: Sim + Drop>(
         (λ answers. MakesSteps D.Disk world.old steps.now answers.items world.new) }
     ensures course { IfOk result
         (λ answers. Runs D.state world.old steps.now answers.items world.new) }
-    ensures calls { IfOk result (λ answers. ForetellsAll D.failures D.outlook world.old.place
-        steps.now answers.items world.new.place) }
+    ensures calls { IfOk result (λ answers. ForetellsAll D.failures D.outlook world.old.condition
+        steps.now answers.items world.new.condition) }
     ensures one_life { IfOk result
         (λ answers. (origin : Origin) → Follows D.state origin (beginning origin) world.old
         → HasNoCrash steps.now → IsOneLife origin

@@ -2,7 +2,7 @@
 ghost use Rattle.std.specs.Prelude.{◌≡◌};
 
 use crate::life::Life;
-use crate::place::Place;
+use crate::condition::Condition;
 use crate::{Answer, Step, laws};
 use disk::{Image, Sim};
 use flusher::Released;
@@ -15,7 +15,7 @@ use store::Store;
 /// A simulated network server over all its lives: a store on a disk, the core that decides on its
 /// table, what is begun, and the effects that were released.
 pub struct World<D: Sim> {
-    pub(crate) place: Place<D>,
+    pub(crate) condition: Condition<D>,
     /// The effects released over all lives, in order.
     pub(crate) released: Vec<Released>,
     /// The number of them that were emitted, or lost at a crash.
@@ -37,7 +37,7 @@ impl<D: Sim + Drop> World<D> {
     ghost use Rattle.store.specs.State.{store_state, disk_of, HoldsOn, IsOld, IsSettled};
     ghost use Rattle.world.specs.declared.step.Step.TheVariants as steps;
     ghost use Rattle.world.specs.Calls.{AreCallsAt, ForetellsAt, outlook_after_opening};
-    ghost use Rattle.world.specs.Tells.{PlaceTellsRoom, CrashesTo, LeavesImage};
+    ghost use Rattle.world.specs.Tells.{ConditionTellsRoom, CrashesTo, LeavesImage};
     ghost use Rattle.world.specs.Course.{Origin, Course, adopted_store, beginning, new_store};
     ghost use Rattle.world.specs.Course.{effects_from};
     ghost use Rattle.sessions.specs.Marks.{IsSubsequence};
@@ -52,7 +52,7 @@ impl<D: Sim + Drop> World<D> {
             (Follows D.state (new_store net_id slots) (beginning (new_store net_id slots))) }
         ensures calls { IfOk result (λ world. AreCallsAt D.failures D.outlook
             (record { failed = D.failures disk; coming = outlook_after_opening (D.outlook disk) })
-            world.place) }
+            world.condition) }
         ensures unarmed { D.outlook disk ≡ AllSucceed → IfErr result (λ e. e ≢ DeviceFailed) }
         ensures refused { IfErr result (IsFormatRefusal slots (length (D.state disk).content)) }
     {
@@ -78,7 +78,7 @@ impl<D: Sim + Drop> World<D> {
             (beginning (adopted_store t seq marks)) world) }
         ensures calls { IfOk result (λ world. AreCallsAt D.failures D.outlook
             (record { failed = D.failures disk; coming = outlook_after_opening (D.outlook disk) })
-            world.place) }
+            world.condition) }
         ensures refused { IfErr result (λ e. e.1 ≢ DeviceFailed → e.1 ≢ OutOfMemory
             → IsFault (D.state disk).content e.1) }
         ensures device { IfErr result (λ e. (e.1 ≡ DeviceFailed
@@ -89,7 +89,7 @@ impl<D: Sim + Drop> World<D> {
         ensures fails { D.outlook disk ≡ FailsAfter 0 → IsErrAnd result
             (λ e. (e.1 ≡ DeviceFailed) × (D.outlook e.0 ≡ AllSucceed)) }
         ensures armed { IsArmed (D.outlook disk) → MatchResult result
-            (λ world. (now : D) → HasDisk world.place now → IsArmed (D.outlook now))
+            (λ world. (now : D) → HasDisk world.condition now → IsArmed (D.outlook now))
             (λ e. (e.1 ≡ DeviceFailed → D.outlook e.0 ≡ AllSucceed)
             × (e.1 ≢ DeviceFailed → IsArmed (D.outlook e.0))) }
         ensures kept { IfErr result (λ e. HoldsOn (D.state disk) (D.state e.0)) }
@@ -113,14 +113,14 @@ impl<D: Sim + Drop> World<D> {
             → (store_state D.state store).seq ≡ origin.number
             → Follows D.state origin (beginning origin) world) }
         ensures same { IfOk result
-            (λ world. (now : D) → HasDisk world.place now → now ≡ disk_of store) }
+            (λ world. (now : D) → HasDisk world.condition now → now ≡ disk_of store) }
         ensures refused { IfErr result (λ e. (e.0 ≡ disk_of store) × (e.1 ≡ OutOfMemory)) }
     {
         store::laws::a_settled_store_is_on_its_disk();
         dedup::laws::no_copies_no_windows();
         match Life::new(alloc, store) {
             Ok(life) => Ok(World {
-                place: Place::Open(life),
+                condition: Condition::Open(life),
                 released: Vec::new(alloc),
                 emitted: 0,
             }),
@@ -140,18 +140,18 @@ impl<D: Sim + Drop> World<D> {
         requires { IsSoundWorld D.state self.old }
         ensures sound { IsSoundWorld D.state self.new }
         ensures course { Moves D.state self.old step.now result self.new }
-        ensures calls { ForetellsAt D.failures D.outlook self.old.place step.now result
-            self.new.place }
-        ensures room_told { PlaceTellsRoom D.state self.old.place step.now result }
-        ensures crashed { LeavesImage D.state self.old.place step.now self.new.place }
+        ensures calls { ForetellsAt D.failures D.outlook self.old.condition step.now result
+            self.new.condition }
+        ensures room_told { ConditionTellsRoom D.state self.old.condition step.now result }
+        ensures crashed { LeavesImage D.state self.old.condition step.now self.new.condition }
     {
         laws::of_runs();
         match step {
             Step::Crash(image) => self.crash(alloc, image),
             Step::Emit => self.emit(alloc),
-            _ => match &mut self.place {
-                Place::Open(life) => life.step(alloc, step, &mut self.released),
-                Place::Closed(_) | Place::Crashing => Answer::Idle,
+            _ => match &mut self.condition {
+                Condition::Open(life) => life.step(alloc, step, &mut self.released),
+                Condition::Closed(_) | Condition::Crashing => Answer::Idle,
             },
         }
     }
@@ -161,8 +161,8 @@ impl<D: Sim + Drop> World<D> {
         requires { IsSoundWorld D.state self.old }
         ensures sound { IsSoundWorld D.state self.new }
         ensures course { Moves D.state self.old steps.Emit result self.new }
-        ensures calls { ForetellsAt D.failures D.outlook self.old.place steps.Emit result
-            self.new.place }
+        ensures calls { ForetellsAt D.failures D.outlook self.old.condition steps.Emit result
+            self.new.condition }
     {
         match self.released.get(self.emitted) {
             None => Answer::Idle,
@@ -182,30 +182,30 @@ impl<D: Sim + Drop> World<D> {
         requires { IsSoundWorld D.state self.old }
         ensures sound { IsSoundWorld D.state self.new }
         ensures course { Moves D.state self.old (steps.Crash image.now) result self.new }
-        ensures calls { ForetellsAt D.failures D.outlook self.old.place
-            (steps.Crash image.now) result self.new.place }
-        ensures crashed { CrashesTo D.state image.now self.old.place self.new.place }
+        ensures calls { ForetellsAt D.failures D.outlook self.old.condition
+            (steps.Crash image.now) result self.new.condition }
+        ensures crashed { CrashesTo D.state image.now self.old.condition self.new.condition }
     {
         laws::of_runs();
         self.emitted = self.released.len();
-        let mut disk = mem::replace(&mut self.place, Place::Crashing).end();
+        let mut disk = mem::replace(&mut self.condition, Condition::Crashing).end();
         disk.crash(image);
         disk::laws::settled_disk_keeps_its_content();
-        let (place, answer) = Place::reopen(alloc, disk);
-        self.put(place);
+        let (condition, answer) = Condition::reopen(alloc, disk);
+        self.put(condition);
         answer
     }
 
-    fn put(&mut self, place: Place<D>)
-        ensures place { self.new.place ≡ place }
+    fn put(&mut self, condition: Condition<D>)
+        ensures condition { self.new.condition ≡ condition }
         ensures released { self.new.released ≡ self.old.released }
         ensures emitted { self.new.emitted ≡ self.old.emitted }
     {
-        match mem::replace(&mut self.place, place) {
-            Place::Open(life) => {
+        match mem::replace(&mut self.condition, condition) {
+            Condition::Open(life) => {
                 let _ = life.end();
             }
-            Place::Closed(_) | Place::Crashing => {}
+            Condition::Closed(_) | Condition::Crashing => {}
         }
     }
 
@@ -215,7 +215,7 @@ impl<D: Sim + Drop> World<D> {
     /// left is among these.
     pub fn close(self) -> (D, Vec<Released>)
         requires { IsSoundWorld D.state self }
-        ensures disk { HasDisk self.place result.0 }
+        ensures disk { HasDisk self.condition result.0 }
         ensures released { result.1 ≡ self.released }
         ensures course { (origin : Origin) (c : Course) → Follows D.state origin c self
             → Survives origin c (D.state result.0)
@@ -223,10 +223,10 @@ impl<D: Sim + Drop> World<D> {
             × IsSubsequence c.left (effects_from origin c.settled)) }
     {
         let World {
-            place,
+            condition,
             released,
             emitted: _,
         } = self;
-        (place.end(), released)
+        (condition.end(), released)
     }
 }

@@ -26,7 +26,7 @@ FRAME = r"(join [0-9A-F]{16} [0-9]+|data [0-9A-F]{8} [0-9]+|other)"
 RECEPTION = r"[0-9A-F]{16} [0-9]+ [0-9]+ -?[0-9]+ -?[0-9]+"
 LINES = re.compile(
     rf"refused [0-9]+ [A-Za-z]+ {FRAME} {RECEPTION}|joined [0-9A-F]{{16}} [0-9]+ [0-9A-F]{{16}}|"
-    rf"(linked|ended|taken_over|faulted) {NAME}|faulted|silent|dropped {NAME} [0-9]+|checkpoint|"
+    rf"(linked|ended|taken_over|unlisted|faulted) {NAME}|faulted|silent|dropped {NAME} [0-9]+|checkpoint|"
     r"slow_sync [0-9]+|left_out [0-9]+"
 )
 NOTHING_MORE: tuple[list[str], int, str] = ([], 0, "")

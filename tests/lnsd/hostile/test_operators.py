@@ -35,14 +35,17 @@ from .operating import (
 WAITING = 1024
 # how often links come anew, and how much memory may be lost by that, in KiB
 ANEW, LEAK = 10_000, 2048
-# copies of one frame by one gateway, each of which but the first of a window is refused
-COPIES = 30_000
+# copies of one frame by each of some gateways, all refused except the first of a window; a link may
+# send 1,000 a second. In all they are twice what an operator's socket holds and what waits besides
+LINKS, COPIES = 8, 1250
 # devices whose queues are filled and emptied, and how often
 QUEUES, ROUNDS = 20, 60
 WATCHING = b"watching\n"
+# silent clients of the control socket, and how long `lnsd stop` may take beside them, in seconds
+MANY, STOPPED = 120, 3
 # how many may watch, and how long the place of one who has gone may be taken, in seconds
 WATCHERS, FREE = 4, 2
-COMMANDS = ("stop", "status", "devices", "watch")
+COMMANDS = ("stop", "status", "devices", "watch", "reload")
 DEVICES = "devices 0 seq 0\n"
 NONSENSE = (b"", b"\n", b"Status\n", b"status", b"status\nstop\n", bytes(40), b"\xff\n")
 # what a server may have sent of its devices when it was broken off, and all of it
@@ -77,17 +80,21 @@ def test_operator_who_does_not_read(server: Program) -> None:
     """An operator who doesn't read holds up nobody, and learns how much was left out."""
     slow = operator(server, b"watch\n")
     assert slow.recv(len(WATCHING)) == WATCHING
-    application, gateway = linked(server)
-    frame = b"\x40" + bytes(11)
-    gateway.say(heard(frame) * COPIES)
+    assert server.address
+    application, frame = Application(server.address, OWNER), b"\x40" + bytes(11)
+    euis = [load.gateway_eui(number) for number in range(LINKS)]
+    gateways = [Gateway(server.address, eui) for eui in euis]
+    for gateway, eui in zip(gateways, euis):
+        gateway.say(heard(frame, eui) * COPIES)
     application.asks("hello")
     assert application.hears() == "refused 51", "an answer meanwhile"
-    await_read(gateway)
+    for gateway in gateways:
+        await_read(gateway)
     came = b""
     while not re.search(rb"\nleft_out [1-9][0-9]*\n", came):
         came += slow.recv(65536)
-    assert WAITING <= came.count(b"refused 21 ") < COPIES
-    for link in (application, gateway):
+    assert WAITING <= came.count(b"refused 21 ") < LINKS * COPIES
+    for link in (application, *gateways):
         link.close()
     assert server.stop()[0] == 0
     slow.close()
@@ -147,6 +154,18 @@ def test_silent_operators(empty: Program) -> None:
     for connection in silent:
         assert all_of(connection) == b""
     assert_stopped(empty)
+
+
+@pytest.mark.timed
+def test_stop_beside_many_silent_operators(empty: Program) -> None:
+    """`lnsd stop` beside 120 clients of the control socket that say nothing, which leave when the
+    server ends, takes three seconds at most."""
+    silent = [operator(empty) for _ in range(MANY)]
+    begun = time.monotonic()
+    assert_stopped(empty)
+    assert time.monotonic() - begun <= STOPPED
+    for connection in silent:
+        connection.close()
 
 
 def test_fifth_watcher(empty: Program, watch: NewWatcher) -> None:

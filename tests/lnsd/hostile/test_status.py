@@ -20,12 +20,13 @@ from .operating import NOTHING_MORE, ORDER, PLACES, assert_stopped, failure, hea
 
 # the names of a status, except the last copies and the moment after them
 NAMES = """listening places links gateways applications devices slots windows waiting made decided
-    durable commits dropped faulted taken_over silent checkpoints syncs longest_sync_us""".split()
+    durable commits dropped faulted taken_over silent unlisted slowed checkpoints syncs
+    longest_sync_us""".split()
 # those whose values aren't known before
 MEASURED = ("durable", "commits", "syncs", "longest_sync_us")
 SLOW = 0.5
 DEVICE = f"0 {DEV_EUI} 1 1 0 0 0 1"
-COMMANDS = ("stop", "status", "devices", "watch")
+COMMANDS = ("stop", "status", "devices", "watch", "reload")
 
 
 def status_of(server: Program, copies: Sequence[str] = (), **due: int) -> dict[str, str]:
@@ -138,7 +139,9 @@ def test_order_to_a_killed_server(killed: Program, word: str) -> None:
 def test_next_server(killed: Program) -> None:
     """The next server removes what was left over; a further one doesn't begin beside it."""
     killed.run_on(2)
-    assert killed.run(*run(killed, f"{HOST}:{free_port()}")) == failure("file")
+    assert killed.run(*run(killed, f"{HOST}:{free_port()}")) == failure(
+        "file\nlnsd: in use by another lnsd"
+    )
     assert_stopped(killed)
     assert not os.path.exists(f"{killed.store}.control")
 
@@ -149,7 +152,9 @@ def test_text_in_place_of_the_socket(server: Program) -> None:
     with open(control, "w", encoding="utf-8") as file:
         file.write(text)
     assert server.run(*run(server, f"{HOST}:{free_port()}")) == failure("control")
-    assert server.run(*run(server, "nonsense")) == failure("listen", 3)
+    assert server.run(*run(server, "nonsense")) == failure(
+        "listen\nlnsd: not an address with a port", 3
+    )
     assert server.run("status", server.store)[0] == 1
     with open(control, encoding="utf-8") as file:
         assert file.read() == text
@@ -159,7 +164,7 @@ def test_address_that_is_taken(server: Program, new_server: NewServer) -> None:
     """At an address that is taken no server begins."""
     other = new_server()
     port = other.run_on(2)[1]
-    assert server.run(*run(server, f"{HOST}:{port}")) == failure("listen", 3)
+    assert server.run(*run(server, f"{HOST}:{port}")) == failure("listen\nlnsd: address in use", 3)
     assert_stopped(other)
 
 

@@ -126,6 +126,10 @@ def test_request_for_memory_that_is_refused(start: Start, program: str, folder: 
     assert ends > 0, "a request was of use"
 
 
+# what is printed of a file if the system refuses it for a reason that is none of the usual ones
+FILE = "file\nlnsd: another error of the system"
+
+
 def test_call_that_fails(start: Start) -> None:
     """Each read, write, sync and renaming fails in turn. The message names a record, the file, or
     has the number of a failed call."""
@@ -134,7 +138,7 @@ def test_call_that_fails(start: Start) -> None:
         if cut.status == 0:
             break
         records = [f"record {path}" for path in cut.case.paths]
-        may = [(1, "", f"lnsd: {what}\n") for what in ("file", "refused 40", *records)]
+        may = [(1, "", f"lnsd: {what}\n") for what in (FILE, "refused 40", *records)]
         assert (cut.status, cut.out, cut.said) in may, f"call {number}"
         cut.next(cut.look())
     print(f"{number - 1} calls failed")

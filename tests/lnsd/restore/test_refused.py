@@ -97,9 +97,10 @@ def test_file_of_above_that_cannot_be_read(new_case: NewCase) -> None:
 def test_copy_that_cannot_be_read(new_case: NewCase) -> None:
     """A copy that isn't there, and a folder."""
     case = new_case()
-    for path in (f"{case.program.folder}/missing", case.program.folder):
-        case.old = path
-        assert case.restore() == (1, "", "lnsd: file\n")
+    causes = (("/missing", "not found"), ("", "it is a folder"))
+    for path, cause in causes:
+        case.old = case.program.folder + path
+        assert case.restore() == (1, "", f"lnsd: file\nlnsd: {cause}\n")
 
 
 def test_new_store_that_is_there(new_case: NewCase) -> None:
@@ -162,7 +163,7 @@ def test_closed_folder(new_case: NewCase, copy: Copy, closed: int) -> None:
     folders = [os.path.dirname(path) for path in (case.old, case.new)]
     for place, folder in enumerate(folders):
         os.chmod(folder, 0o555 if place == closed else 0o777)
-    due = "file" if closed else f"record {case.paths[0]}"
+    due = "file\nlnsd: permission denied" if closed else f"record {case.paths[0]}"
     try:
         came = case.restore(**how)
     except (PermissionError, subprocess.SubprocessError) as why:

@@ -23,7 +23,7 @@ returns-in-Ok-open_after-clause-crash g c origin begun =
     let last = c.run.new.world in
     let course = course_of origin (beginning origin) c.args.steps.now c.in-Ok.answers.items in
     let followed = (c.in-Ok.ensures.course origin (beginning origin) begun).1 in
-    let there = some_disk state last.place (length last.released.items) (vec_capacity last.released) c.in-Ok.ensures.sound in
+    let there = some_disk state last.condition (length last.released.items) (vec_capacity last.released) c.in-Ok.ensures.sound in
     record {
       first = c.args.world;
       begun = begun;
@@ -31,7 +31,7 @@ returns-in-Ok-open_after-clause-crash g c origin begun =
       made = c.in-Ok.ensures.steps;
       disk = there.0;
       at = there.1;
-      survives = disk_survives state origin course last.place there.0 followed.place there.1;
+      survives = disk_survives state origin course last.condition there.0 followed.condition there.1;
       opened = c.in-Ok-open_after.ensures.crash there.0 there.1;
     }
 
@@ -60,7 +60,7 @@ returns-in-Err-open_after-clause-unarmed g c calls are all nothing =
     let last = c.run.new.world in
     let steps = c.args.steps.now in
     let answers = c.in-Ok.answers.items in
-    let there = some_disk g.D.Disk.state last.place (length last.released.items) (vec_capacity last.released) c.in-Ok.ensures.sound in
+    let there = some_disk g.D.Disk.state last.condition (length last.released.items) (vec_capacity last.released) c.in-Ok.ensures.sound in
     let calm : (calls_of calls steps answers).coming ≡ AllSucceed = stays_calm calls steps answers nothing all in
     let known = ((c.in-Ok.ensures.calls calls are).1 there.0 there.1).known in
     let closed : outlook there.0 ≡ AllSucceed = subst (λ o. IsKnownOutlook o (outlook there.0)) calm known in

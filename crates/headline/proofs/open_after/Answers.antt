@@ -13,7 +13,7 @@ returns-clause-crash g c before at =
     let state = g.D.Disk.state in
     let image = c.args.image.now in
     let left = (state c.crash.new.self).content in
-    let same = one_disk c.args.world.place c.close-disk.result.0 before c.close-disk.ensures.disk at in
+    let same = one_disk c.args.world.condition c.close-disk.result.0 before c.close-disk.ensures.disk at in
     record {
       left = left;
       crashed = subst (λ d. IsCrashed image (state d) left) same c.crash.ensures.image;
@@ -67,14 +67,14 @@ returns-in_err-store-clause-unarmed g c before at all =
     let outlook = g.D.Disk.outlook in
     let e = c.in_err-store in
     let r = c.from_residual in
-    let same = one_disk c.args.world.place c.close-disk.result.0 before c.close-disk.ensures.disk at in
+    let same = one_disk c.args.world.condition c.close-disk.result.0 before c.close-disk.ensures.disk at in
     refused_with _ r.result e.field-0.0 r.ensures.1
     (e.ensures.unarmed (c.crash.ensures.outlook ∙ (ap outlook same ∙ all)))
 
 pub returns-clause-fails : goal.returns-clause-fails
 returns-clause-fails g c before at first =
     let outlook = g.D.Disk.outlook in
-    let same = one_disk c.args.world.place c.close-disk.result.0 before c.close-disk.ensures.disk at in
+    let same = one_disk c.args.world.condition c.close-disk.result.0 before c.close-disk.ensures.disk at in
     absurd (c.in_ok-store.ensures.fails (c.crash.ensures.outlook ∙ (ap outlook same ∙ first)))
 
 pub returns-in_err-store-clause-fails : goal.returns-in_err-store-clause-fails
@@ -82,6 +82,6 @@ returns-in_err-store-clause-fails g c before at first =
     let outlook = g.D.Disk.outlook in
     let e = c.in_err-store in
     let r = c.from_residual in
-    let same = one_disk c.args.world.place c.close-disk.result.0 before c.close-disk.ensures.disk at in
+    let same = one_disk c.args.world.condition c.close-disk.result.0 before c.close-disk.ensures.disk at in
     refused_surely _ r.result e.field-0.0 r.ensures.1
     (e.ensures.fails (c.crash.ensures.outlook ∙ (ap outlook same ∙ first)))

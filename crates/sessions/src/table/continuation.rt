@@ -66,8 +66,18 @@ impl Table {
             (λ e. (e ≡ OutOfMemory) × (self.new ≡ self.old)) }
     {
         let after = decision.after.copy()?;
-        self.place(decision.slot, after);
+        self.apply_copy(decision, after);
         Ok(())
+    }
+
+    /// Puts this copy of the record of a decision that was made of this table into its slot. Takes
+    /// no memory.
+    pub fn apply_copy(&mut self, decision: &Decision, after: Device)
+        requires fits { FitsTable self.old decision.now }
+        requires copy { after ≡ decision.now.after }
+        ensures { self.new ≡ with_decision self.old decision.now }
+    {
+        self.place(decision.slot, after);
     }
 }
 

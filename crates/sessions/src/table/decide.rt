@@ -58,7 +58,7 @@ impl Table {
     }
 
     // A copy of the record at a slot, if there is one.
-    fn record_at(&self, slot: u16) -> Result<Option<Device>, Refusal>
+    pub(crate) fn record_at(&self, slot: u16) -> Result<Option<Device>, Refusal>
         ensures { MatchResult result
             (λ found. found ≡ slice_get self.now.devices slot)
             (λ e. e ≡ OutOfMemory) }

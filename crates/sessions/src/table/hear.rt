@@ -1,16 +1,18 @@
 // A frame that gateways heard, as a step of the device that sent it.
-ghost use Rattle.std.specs.Prelude.{◌≡◌, None, Ok, Some, MatchOption, slice_get};
+ghost use Rattle.std.specs.Prelude.{◌≡◌, IfOk, None, Ok, Some, MatchOption, slice_get};
 ghost use Rattle.lw_types.specs.Answer.{Answers};
 ghost use Rattle.phy_payload.specs.Frame.{data_mic_input};
 ghost use Rattle.join_server.specs.Request.{dev_eui_of, IsRequest};
+ghost use Rattle.sessions.specs.HeardStep.{StepsHeard};
 ghost use Rattle.sessions.specs.Served.{served_frame, heard_command, heard_frame, received_in};
+ghost use Rattle.sessions.specs.Served.{is_request};
 ghost use Rattle.sessions.specs.Table.{slot_of, step, IsQuestion};
 ghost use Rattle.sessions.specs.Decision.{AnswersTo, IsStepped};
 
-use crate::Table;
 use crate::join::{join, join_ask};
 use crate::served::Served;
 use crate::table::decide::Stepped;
+use crate::{HeardStep, Table};
 use devices::{Device, Hearings, slot_at};
 use join_server::{JoinAsk, JoinRequestBytes};
 use lw_types::{Eui, PhyPayload, Refusal};
@@ -28,21 +30,39 @@ pub struct Question<'a> {
 }
 
 impl Table {
-    /// Whether a frame with these copies would be decided with this sequence number; nothing is
-    /// decided, and the frame and its copies are only borrowed. A refusal is returned as
-    /// [`Table::decide`] returns it.
-    pub fn check_heard(
+    /// What a frame with these copies does, for the decision with this sequence number. The frame
+    /// and its copies are only borrowed. With them ([`HeardStep::into_decision`]) it is the
+    /// decision of [`Table::decide`]. It is refused as `decide` refuses it.
+    pub fn step_heard(
         &self,
         alloc: Global,
         seq: u64,
         phy_payload: &PhyPayload,
         hearings: &Hearings,
-    ) -> Result<(), Refusal>
-        ensures { let command = heard_command phy_payload.now hearings.now in
-            AnswersTo command (step self.now command) (λ _ _. Unit {0}) result }
+    ) -> Result<HeardStep, Refusal>
+        ensures steps { StepsHeard self.now seq (heard_frame phy_payload.now hearings.now) result }
+        ensures request { IfOk result (λ found. found.is_join_request
+            ≡ is_request (received_in (heard_frame phy_payload.now hearings.now))) }
     {
-        let _stepped = self.hear(alloc, seq, phy_payload, hearings)?;
-        Ok(())
+        let frame = receive(phy_payload, hearings)?;
+        let is_join_request = frame.is_request();
+        let Stepped {
+            slot,
+            after,
+            effects,
+        } = self.serve(alloc, seq, phy_payload, hearings, &frame)?;
+        let before = self.record_at(slot)?;
+        let _ = self.devices();
+        self.devices_are_apart();
+        Ok(HeardStep {
+            net_id: self.net_id(),
+            seq,
+            slot,
+            before,
+            after,
+            effects,
+            is_join_request,
+        })
     }
 
     // What a frame that gateways heard does.
@@ -56,11 +76,28 @@ impl Table {
         ensures { let command = heard_command phy_payload.now hearings.now in
             AnswersTo command (step self.now command) IsStepped result }
     {
-        match receive(phy_payload, hearings)? {
+        let served = receive(phy_payload, hearings)?;
+        self.serve(alloc, seq, phy_payload, hearings, &served)
+    }
+
+    // What a frame that is served does.
+    fn serve(
+        &self,
+        alloc: Global,
+        seq: u64,
+        phy_payload: &PhyPayload,
+        hearings: &Hearings,
+        served: &Served<'_>,
+    ) -> Result<Stepped, Refusal>
+        requires { received_in (heard_frame phy_payload.now hearings.now) ≡ Ok served.now }
+        ensures { let command = heard_command phy_payload.now hearings.now in
+            AnswersTo command (step self.now command) IsStepped result }
+    {
+        match served {
             Served::Request(request) => {
-                self.hear_request(alloc, seq, phy_payload, hearings, request)
+                self.hear_request(alloc, seq, phy_payload, hearings, *request)
             }
-            Served::Uplink(uplink) => self.hear_uplink(alloc, phy_payload, hearings, &uplink),
+            Served::Uplink(uplink) => self.hear_uplink(alloc, phy_payload, hearings, uplink),
         }
     }
 
@@ -120,7 +157,7 @@ impl Table {
         let slot = slot_at(uplink.frame.dev_addr());
         let received = ReceivedUplink {
             uplink,
-            message: without_mic(phy_payload.as_slice(), uplink),
+            mic_input: without_mic(phy_payload.as_slice(), uplink),
             hearings,
         };
         match self.devices().get(slot as usize) {

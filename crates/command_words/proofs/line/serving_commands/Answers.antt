@@ -10,4 +10,6 @@ returns c =
     let six = c.with_command-lnsd-6.ensures _ _ five c.status.ensures in
     let seven = c.with_command-lnsd-7.ensures _ _ six c.restore.ensures in
     let eight = c.with_command-lnsd-8.ensures _ _ seven c.devices.ensures in
-    c.with_command.ensures _ _ eight c.watch.ensures
+    let nine = c.with_command-lnsd-9.ensures _ _ eight c.watch.ensures in
+    let ten = c.with_command-lnsd-10.ensures _ _ nine c.reload_command.ensures in
+    c.with_command.ensures _ _ ten c.copy_command.ensures

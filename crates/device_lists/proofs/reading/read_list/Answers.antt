@@ -39,7 +39,7 @@ loop-reading-preserved c =
       was.1,
       was.2,
       was.3 ++ row ∷ [],
-      read_last c.args.usage c.in-Ok.head.items was.3 row c.loop-reading.reading c.numbered_change.result c.take.new.self (search rules) c.in_ok-take.ensures was.4,
+      read_last c.args.usage c.in-Ok.head.items was.3 row c.loop-reading.reading c.numbered_change.result c.note.new.self (search rules) c.in_ok-note.ensures was.4,
       λ more left. subst (λ rows. AreRows c.args.text.now (was.1 ∷ rows)) (sym (append_assoc was.3 (row ∷ []) more))
           (was.5 (row ∷ more) (row_taken c.loop-reading.rows c.in_ok-row.field-0 c.in-Some-2.row c.next-in-loop-reading.new.self c.in-Some-2.is c.in_ok-row.ensures.row more left)),
     )

@@ -34,6 +34,12 @@ returns-in-Edit g c =
     _ _ g.O.Write.contents _ _ string_bytes _ _ c.in-Edit.is tt
     c.edit.ensures c.tell_outcome-in-Edit.ensures.ok c.tell_outcome-in-Edit.ensures.err
 
+pub returns-in-Copy : goal.returns-in-Copy
+returns-in-Copy g c =
+    of_text (λ m o. g.C.Commands.ends c.args.commands.now m o c.copy.new.self)
+    _ _ g.O.Write.contents _ _ string_bytes _ _ c.in-Copy.is tt
+    c.copy.ensures c.tell_outcome-in-Copy.ensures.ok c.tell_outcome-in-Copy.ensures.err
+
 pub returns-in-Format : goal.returns-in-Format
 returns-in-Format g c =
     of_nothing (λ m o. g.C.Commands.ends c.args.commands.now m o c.format.new.self)
@@ -45,6 +51,12 @@ returns-in-Stop g c =
     of_nothing (λ m o. g.C.Commands.ends c.args.commands.now m o c.stop.new.self)
     _ _ g.O.Write.contents _ _ _ c.in-Stop.is
     c.stop.ensures c.tell_nothing-in-Stop.ensures.ok c.tell_nothing-in-Stop.ensures.err
+
+pub returns-in-Reload : goal.returns-in-Reload
+returns-in-Reload g c =
+    of_nothing (λ m o. g.C.Commands.ends c.args.commands.now m o c.reload.new.self)
+    _ _ g.O.Write.contents _ _ _ c.in-Reload.is
+    c.reload.ensures c.tell_nothing-in-Reload.ensures.ok c.tell_nothing-in-Reload.ensures.err
 
 pub returns-in-Serve : goal.returns-in-Serve
 returns-in-Serve g c =

@@ -1,8 +1,10 @@
-use Rattle.std.proofs.Common.{◌≡◌, ◌+◌, [], IfErr, IfOk, OnOk, sym, subst}
+use Rattle.std.proofs.Common.{◌≡◌, ◌+◌, [], Err, IfErr, IfOk, OnOk, sym, subst}
 use Rattle.flusher.specs.Calls.{NoneFailed}
 use Rattle.flusher.proofs.Calling.{none_yet}
 use Rattle.store.specs.State.{store_state}
-use Rattle.lnsd_life.specs.Served.{IsLedOn, IsRefused}
+use Rattle.lw_types.specs.declared.refusal.Refusal.TheVariants.{OutOfMemory}
+use Rattle.lnsd_life.specs.Served.{CommitsInOrder, IsLedOn, IsRefused}
+use Rattle.lnsd_life.proofs.Decided.{none_decided}
 use Rattle.lnsd_life.proofs.running.run_in.Goals.{then-started, else-started}
 use Rattle.lnsd_life.proofs.running.run_in.Goals as goal
 
@@ -24,9 +26,19 @@ returns g c =
       committed =
           elim c.if-started.branch [
             | then-started w ↦
-                subst (λ r. IfOk r (λ taken. new.seq + c.args.taker ≡ old.seq + taken)) (sym w.result-is)
-                (subst (λ s. IfOk w.flush-result.result (λ taken. s.seq + c.args.taker ≡ old.seq + taken)) (sym w.store-is) w.flush-result.ensures.committed)
-            | else-started w ↦ subst (λ r. IfOk r (λ taken. new.seq + c.args.taker ≡ old.seq + taken)) (sym w.result-is) (tt {0})
+                subst (λ r. IfOk r (λ taken. new.seq + c.args.taker.taken ≡ old.seq + taken)) (sym w.result-is)
+                (subst (λ s. IfOk w.flush-result.result (λ taken. s.seq + c.args.taker.taken ≡ old.seq + taken)) (sym w.store-is) w.flush-result.ensures.committed)
+            | else-started w ↦ subst (λ r. IfOk r (λ taken. new.seq + c.args.taker.taken ≡ old.seq + taken)) (sym w.result-is) (tt {0})
+          ];
+      decided =
+          elim c.if-started.branch [
+            | then-started w ↦
+                subst (λ r. CommitsInOrder (store_state g.D.Disk.state old) (store_state g.D.Disk.state new) c.args.taker r) (sym w.result-is)
+                (subst (λ s. CommitsInOrder (store_state g.D.Disk.state old) (store_state g.D.Disk.state s) c.args.taker w.flush-result.result) (sym w.store-is) w.flush-result.ensures.decided)
+            | else-started w ↦
+                subst (λ r. CommitsInOrder (store_state g.D.Disk.state old) (store_state g.D.Disk.state new) c.args.taker r) (sym w.result-is)
+                (subst (λ s. CommitsInOrder (store_state g.D.Disk.state old) (store_state g.D.Disk.state s) c.args.taker (Err OutOfMemory)) (sym w.store-is)
+                (none_decided (store_state g.D.Disk.state old) c.args.taker OutOfMemory))
           ];
       refused =
           elim c.if-started.branch [

@@ -1,12 +1,15 @@
-use Rattle.std.proofs.Common.{◌≡◌, ◌+◌, IfErr, IfOk, OnOk, sym, subst}
+use Rattle.std.proofs.Common.{◌≡◌, ◌+◌, ℕ, IfErr, IfOk, OnOk, arith, length, sym, subst}
 use Rattle.flusher.specs.Calls.{NoneFailed}
 use Rattle.store.specs.State.{store_state}
 use Rattle.lnsd_life.proofs.Ending.{ended_well, told_committed, told_refused}
-use Rattle.lnsd_life.specs.Served.{IsLedOn, IsRefused}
+use Rattle.session_core.specs.Taking.{TakerState}
+use Rattle.lnsd_life.proofs.Decided.{told_history}
+use Rattle.lnsd_life.specs.Served.{CommitsInOrder, IsLedOn, IsRefused}
+use Rattle.lnsd_life.specs.declared.report.LifeReport.{LifeReport}
 use Rattle.lnsd_life.proofs.serving.serve_life.Goals as goal
 
-pub returns : goal.returns
-returns g c =
+pub returns-clause-served : goal.returns-clause-served
+returns-clause-served g c =
     let HasNoneFailed = NoneFailed g.D.Disk.failures g.D.Disk.outlook c.args.store in
     let ran = c.run-end.ensures in
     let ended = c.served_life.ensures in
@@ -17,8 +20,13 @@ returns g c =
       committed =
           told_committed c.run-end.result.result c.served_life.result.result c.args.store.seq c.served_life.result.store.seq
           ended.refused ended.told
-          (subst (λ n. IfOk c.run-end.result.result (λ taken. c.served_life.result.store.seq + n ≡ c.args.store.seq + taken)) c.new-shared.ensures.taker
-          (subst (λ s. IfOk c.run-end.result.result (λ taken. s.seq + c.new-shared.result.1 ≡ c.args.store.seq + taken)) (sym ended.store) ran.committed));
+          (subst (λ (t : TakerState). IfOk c.run-end.result.result (λ taken. c.served_life.result.store.seq + t.taken ≡ c.args.store.seq + taken)) c.new-shared.ensures.taker
+          (subst (λ s. IfOk c.run-end.result.result (λ taken. s.seq + c.new-shared.result.1.taken ≡ c.args.store.seq + taken)) (sym ended.store) ran.committed));
+      decided =
+          told_history c.run-end.result.result c.served_life.result.result (store_state g.D.Disk.state c.args.store) (store_state g.D.Disk.state c.served_life.result.store)
+          ended.refused ended.told
+          (subst (λ (t : TakerState). CommitsInOrder (store_state g.D.Disk.state c.args.store) (store_state g.D.Disk.state c.served_life.result.store) t c.run-end.result.result) c.new-shared.ensures.taker
+          (subst (λ s. CommitsInOrder (store_state g.D.Disk.state c.args.store) (store_state g.D.Disk.state s) c.new-shared.result.1 c.run-end.result.result) (sym ended.store) ran.decided));
       refused =
           told_refused g.D.Disk c.run-end.result.result c.served_life.result.result c.args.store c.served_life.result.store
           ended.refused ended.told healthy
@@ -26,3 +34,9 @@ returns g c =
       lives = λ honest.
           subst (λ s. IsLedOn (store_state g.D.Disk.state c.args.store) (store_state g.D.Disk.state s)) (sym ended.store) (ran.lives honest);
     }
+
+-- a share of each place, and one of the closer
+pub returns-clause-workers : goal.returns-clause-workers
+returns-clause-workers g c =
+    let all : c.len.result + 1 ≡ length c.args.places.links.items + 1 = omega (arith, c.len.ensures, c.args.places.links.ok.0) in
+    subst (λ (n : ℕ). IfOk c.served_life.result.result (λ (report : LifeReport). length report.shares.items ≡ n)) all c.served_life.ensures.workers

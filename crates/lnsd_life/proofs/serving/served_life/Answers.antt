@@ -1,4 +1,4 @@
-use Rattle.std.proofs.Common.{◌≡◌, ℕ, Result, IfOk, MatchResult, sum, sym, subst}
+use Rattle.std.proofs.Common.{◌≡◌, ℕ, Result, IfOk, MatchResult, length, sum, sym, subst}
 use Rattle.lw_types.specs.declared.refusal.Refusal.{Refusal}
 use Rattle.lnsd_life.specs.Served.{IsUntold}
 use Rattle.lnsd_life.specs.declared.report.LifeReport.{LifeReport}
@@ -15,6 +15,17 @@ returns-clause-shares g c =
     elim c.match-result.branch [
       | in-Ok w ↦ subst HasSum (sym w.result-is) w.report-result.ensures.sum
       | in-Err w ↦ subst HasSum (sym w.result-is) (tt {0})
+    ]
+
+-- how many workers are known of a report, with the closer
+abbrev HasWorkers : ℕ → Result LifeReport ServeFault → Type 0
+HasWorkers all r = IfOk r (λ report. length report.shares.items ≡ all)
+
+pub returns-clause-workers : goal.returns-clause-workers
+returns-clause-workers g c =
+    elim c.match-result.branch [
+      | in-Ok w ↦ subst (HasWorkers c.args.all) (sym w.result-is) w.report-result.ensures.workers
+      | in-Err w ↦ subst (HasWorkers c.args.all) (sym w.result-is) (tt {0})
     ]
 
 -- what is reported of how a life ended

@@ -16,9 +16,9 @@ on_port_0 addr s opts message sent r is port h = rw (is, port) h
 pub returns-in-Some : goal.returns-in-Some
 returns-in-Some c =
     let frame = c.args.frame.now in
-    let seen = c.in-Some.message in
+    let seen = c.in-Some.port_payload in
     let sent : PortPayload = record { f_port = seen.f_port; frm_payload = seen.frm_payload.now } in
-    on_port_0 frame.dev_addr c.args.session.now frame.contents.f_opts frame.contents.message sent c.decrypted.result
-    (sym c.in-Some.ensures.message) c.if-message-eq0.true
+    on_port_0 frame.dev_addr c.args.session.now frame.contents.f_opts frame.contents.port_payload sent c.decrypted.result
+    (sym c.in-Some.ensures.port_payload) c.if-port_payload-eq0.true
     (subst (λ (addr : DevAddr). IfOk c.decrypted.result (λ bytes. bytes ≡ crypted_payload c.args.session.now.session.nwk_skey.0 Up addr.0 c.args.session.now.last_up seen.frm_payload.now))
     c.dev_addr.ensures c.decrypted.ensures)

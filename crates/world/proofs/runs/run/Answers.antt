@@ -27,7 +27,7 @@ loop-step-preserved g c =
     let next : take (at + 1) steps ≡ take at steps ++ step ∷ [] = take_more steps at step within ∙ ap (λ s. take at steps ++ s ∷ []) (sym c.step-item.is) in
     let runs = runs_on state old c.loop-step.world new (take at steps) told step c.step.result before.1.0 c.step.ensures.course in
     let foretold =
-    foretells_on failures outlook old.place c.loop-step.world.place new.place (take at steps) told step c.step.result before.1.1.0 c.step.ensures.calls in
+    foretells_on failures outlook old.condition c.loop-step.world.condition new.condition (take at steps) told step c.step.result before.1.1.0 c.step.ensures.calls in
     let made =
     makes_more g.D.Disk old c.loop-step.world new (take at steps) told step c.step.result before.1.1.1.0
     (record { moves = c.step.ensures.course; calls = c.step.ensures.calls; room = c.step.ensures.room_told; image = c.step.ensures.crashed }) in
@@ -38,8 +38,8 @@ loop-step-preserved g c =
         subst (λ ss. Runs state old ss c.push-pushed.new.self.items new) (sym next)
             (subst (λ told. Runs state old (take at steps ++ step ∷ []) told new) (sym added) runs),
         (
-          subst (λ ss. ForetellsAll failures outlook old.place ss c.push-pushed.new.self.items new.place) (sym next)
-              (subst (λ told. ForetellsAll failures outlook old.place (take at steps ++ step ∷ []) told new.place) (sym added) foretold),
+          subst (λ ss. ForetellsAll failures outlook old.condition ss c.push-pushed.new.self.items new.condition) (sym next)
+              (subst (λ told. ForetellsAll failures outlook old.condition (take at steps ++ step ∷ []) told new.condition) (sym added) foretold),
           (
             subst (λ ss. MakesSteps g.D.Disk old ss c.push-pushed.new.self.items new) (sym next)
                 (subst (λ told. MakesSteps g.D.Disk old (take at steps ++ step ∷ []) told new) (sym added) made),
@@ -65,5 +65,5 @@ returns-clause-calls g c =
     let told = c.loop-step.answers.items in
     let at = c.loop-step.step-index in
     let past : length steps ≤ at = omega (arith, c.loop-step-test.false) in
-    subst (λ ss. ForetellsAll g.D.Disk.failures g.D.Disk.outlook c.args.world.now.place ss told c.loop-step.world.place) (take_all at steps past)
+    subst (λ ss. ForetellsAll g.D.Disk.failures g.D.Disk.outlook c.args.world.now.condition ss told c.loop-step.world.condition) (take_all at steps past)
     c.loop-step.invariant.1.1.0

@@ -12,6 +12,6 @@ invariant-loop-step g l =
     let state = g.D.Disk.state in
     IsSoundWorld state l.world
     × (Runs state l.fn.world (take l.step-index l.steps) l.answers.items l.world
-    × (ForetellsAll g.D.Disk.failures g.D.Disk.outlook l.fn.world.place (take l.step-index l.steps) l.answers.items l.world.place
+    × (ForetellsAll g.D.Disk.failures g.D.Disk.outlook l.fn.world.condition (take l.step-index l.steps) l.answers.items l.world.condition
     × (MakesSteps g.D.Disk l.fn.world (take l.step-index l.steps) l.answers.items l.world
     × ((length l.answers.items ≡ l.step-index) × (length l.steps ≤ vec_capacity l.answers)))))

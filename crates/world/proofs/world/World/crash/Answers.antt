@@ -6,7 +6,7 @@ use Rattle.world.specs.declared.step.Step.TheVariants as steps
 use Rattle.world.specs.Answers.{AnswersCrash}
 use Rattle.world.specs.Calls.{AreCallsAt, calls_after}
 use Rattle.world.specs.Course.{course_after}
-use Rattle.world.specs.Follows.{FollowsPlace}
+use Rattle.world.specs.Follows.{FollowsCondition}
 use Rattle.world.specs.Sound.{HasDisk}
 use Rattle.world.proofs.Known.{unseen}
 use Rattle.world.proofs.Opening.{disk_survives, crashed_survives, both_ways, crash_keeps}
@@ -18,19 +18,19 @@ returns-clause-course g c origin course f =
     let state = g.D.Disk.state in
     let world = c.args.self.now in
     let image = c.args.image.now in
-    let answer = c.reopen-place.result.1 in
+    let answer = c.reopen-condition.result.1 in
     let old = c.end-disk.result in
     let disk = c.crash.new.self in
     let came = subst (λ p. HasDisk p old) c.replace.ensures.value c.end-disk.ensures in
-    let before = disk_survives state origin course world.place old f.place came in
+    let before = disk_survives state origin course world.condition old f.condition came in
     let survives = crashed_survives origin course (state old) (state disk) before c.crash.ensures.permitted
     (c.settled_disk_keeps_its_content.ensures (state disk) c.crash.ensures.settled.nothing_open) in
-    let opened = c.reopen-place.ensures.course origin course c.crash.ensures.settled.nothing_open survives in
+    let opened = c.reopen-condition.ensures.course origin course c.crash.ensures.settled.nothing_open survives in
     let next = course_after origin course (steps.Crash image) answer in
     let kept = crash_keeps c.of_runs.ensures origin course image answer opened.0 in (
       both_ways course.is_open (AnswersCrash origin course answer) opened.0,
       record {
-        place = subst (FollowsPlace state origin next) (sym c.put.ensures.place) (opened.1 image);
+        condition = subst (FollowsCondition state origin next) (sym c.put.ensures.condition) (opened.1 image);
         left = kept.left ∙ (f.left ∙ ap (λ r. effects_of_all r.items) (sym c.put.ensures.released));
         emitted =
             let put = c.put.ensures.emitted in
@@ -52,8 +52,8 @@ returns-clause-calls g c calls are =
     let disk = c.crash.new.self in
     let came = subst (λ p. HasDisk p old) c.replace.ensures.value c.end-disk.ensures in
     let crashed = unseen calls (failures old) (failures disk) (outlook old) (outlook disk) (are old came) c.crash.ensures.failures c.crash.ensures.outlook in
-    let found = c.reopen-place.ensures.calls image calls crashed in
-    (found.0, subst (AreCallsAt failures outlook (calls_after calls (steps.Crash image) c.reopen-place.result.1)) (sym c.put.ensures.place) found.1)
+    let found = c.reopen-condition.ensures.calls image calls crashed in
+    (found.0, subst (AreCallsAt failures outlook (calls_after calls (steps.Crash image) c.reopen-condition.result.1)) (sym c.put.ensures.condition) found.1)
 
 pub returns-clause-crashed : goal.returns-clause-crashed
 returns-clause-crashed g c before now at there =
@@ -62,5 +62,5 @@ returns-clause-crashed g c before now at there =
     let old = c.end-disk.result in
     let disk = c.crash.new.self in
     let came = subst (λ p. HasDisk p old) c.replace.ensures.value c.end-disk.ensures in
-    let opened = c.reopen-place.ensures.from c.crash.ensures.settled.nothing_open now (subst (λ p. HasDisk p now) c.put.ensures.place there) in
-    ((state disk).content, subst (λ d. IsCrashed image (state d) (state disk).content) (one_disk c.args.self.now.place old before came at) c.crash.ensures.image, opened)
+    let opened = c.reopen-condition.ensures.from c.crash.ensures.settled.nothing_open now (subst (λ p. HasDisk p now) c.put.ensures.condition there) in
+    ((state disk).content, subst (λ d. IsCrashed image (state d) (state disk).content) (one_disk c.args.self.now.condition old before came at) c.crash.ensures.image, opened)

@@ -2,7 +2,7 @@ use Rattle.std.proofs.Common.{◌∙◌, ◌+◌, inl, inr, ap, arith}
 use Rattle.gateway_wire.specs.Emission.{emission}
 use Rattle.world.specs.declared.answer.Answer.TheVariants as answers
 use Rattle.world.specs.Answers.{AnswersEmit}
-use Rattle.world.proofs.Emitting.{emits, found_at, same_place}
+use Rattle.world.proofs.Emitting.{emits, found_at, same_condition}
 use Rattle.world.proofs.Opening.{both_ways}
 use Rattle.world.proofs.world.World.emit.Goals as goal
 
@@ -17,7 +17,7 @@ returns-in-Ok-clause-course g c origin course f =
     (inl (ap answers.Emitted (c.in-Ok.ensures.emission ∙ ap emission c.effect.ensures))) in (
       both_ways course.is_open (AnswersEmit course answer) right,
       record {
-        place = same_place g.D.Disk.state origin course (course.emitted + 1) world.place f.place;
+        condition = same_condition g.D.Disk.state origin course (course.emitted + 1) world.condition f.condition;
         left = f.left;
         emitted = let before = f.emitted in omega (arith, before);
         once = f.once;

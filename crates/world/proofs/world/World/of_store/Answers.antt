@@ -17,7 +17,7 @@ returns-in-Ok-clause-course g c healthy settled origin table number =
     let s = store_state state c.args.store in
     let life = c.in-Ok.life in
     record {
-      place = (
+      condition = (
         refl,
         (
           moved origin first s (store_state state life.store) (new_decisions s.table s.seq) life.core.decisions at_rest life.commits

@@ -1,0 +1,231 @@
+"""A server with a list of the names that may connect (`lnsd run --names`), beside strangers."""
+
+import time
+from contextlib import ExitStack
+from pathlib import Path
+
+import pytest
+from bozintar import load
+from bozintar.links import Application, Ended, Gateway, Link, Silent
+from bozintar.processes import HOST, free_port
+from bozintar.server import Program
+from lnsd.anew import await_status
+
+from ..conftest import NewServer
+from ..pairs import EUI, HEARD, OWNER, records
+from .conftest import NewWatcher
+from .operating import PLACES, assert_stopped, failure
+
+# invented gateways, and strangers that stay silent and come again
+INVENTED, SILENT = 64, 400
+# how long a gateway that is listed may take to connect and be heard, in seconds, and how often that
+# is tried
+SOON, TRIES = 5, 3
+OTHER = "00000000000000B2"
+LISTED = f"gateway {EUI}\napplication {OWNER}\n"
+# what isn't a line of a list, by docs/OPERATING.md
+WRONG = (
+    "gateway",
+    "gateway ",
+    "gateway 00000000000000b1",
+    "gateway 0000000000000B1",
+    f"gateway  {EUI}",
+    f"gateway {EUI} ",
+    f" gateway {EUI}",
+    "application 16",
+    "application 03",
+    "application -1",
+    "application",
+    "device 0000000000000001",
+    EUI,
+    " ",
+    " # remark",
+)
+NO_NAME = "neither 'gateway EUI' nor 'application N'"
+LINES = "\n# all of ours\n\n"
+
+
+@pytest.fixture
+def names(folder: Path) -> Path:
+    """The file of names."""
+    file = folder / "names"
+    file.write_text(LINES + LISTED, encoding="utf-8")
+    return file
+
+
+@pytest.fixture
+def server(new_server: NewServer, names: Path) -> Program:
+    """A server with a list, and a device in its session."""
+    made = new_server(records=records(1, OWNER))
+    made.run_on(PLACES, names=str(names))
+    return made
+
+
+def is_closed(link: Link, seconds: float = 2) -> bool:
+    """Whether the server closes a link, on which nothing comes."""
+    try:
+        link.read(seconds)
+    except Ended:
+        return True
+    except Silent:
+        pass
+    return False
+
+
+def uplink_comes(server: Program, application: Application, counter: int) -> bool:
+    """Whether the listed gateway connects, and its uplink comes out, soon."""
+    assert server.address
+    device, begun = load.device(0), time.monotonic()
+    device.next_up = counter
+    with Gateway(server.address, EUI, patience=SOON) as gateway:
+        gateway.hands_in(device.uplink(7, b"\x01"), HEARD)
+        line = application.hears(SOON)
+    assert line.split(" ")[:4] == ["up", load.dev_eui(0), "1", str(counter)]
+    return time.monotonic() - begun < SOON
+
+
+@pytest.mark.timed
+def test_invented_names(server: Program, watch: NewWatcher) -> None:
+    """64 links with invented names are closed at once and counted, and are given nothing. The
+    listed gateway connects, and its uplinks come out."""
+    assert server.address
+    watcher = watch(server)
+    with Application(server.address, OWNER) as application:
+        watcher.await_line(f"linked application {OWNER}")
+        with ExitStack() as strangers:
+            for number in range(INVENTED):
+                eui = f"{0xDEAD000000000000 + number:016X}"
+                link = strangers.enter_context(Gateway(server.address, eui))
+                assert is_closed(link)
+            status = await_status(server, unlisted=INVENTED)
+            assert (status["gateways"], status["faulted"]) == ("0", "0")
+            assert uplink_comes(server, application, 1)
+        came = watcher.await_line(f"linked gateway {EUI}")
+        assert sum(line.startswith("unlisted gateway DEAD") for line in came) == INVENTED
+    await_status(server, links=0)
+    assert server.stop()[0] == 0
+
+
+def test_another_application(server: Program) -> None:
+    """An application that isn't listed is closed, and gets nothing that waits for it."""
+    assert server.address
+    with Application(server.address, OWNER + 1) as other:
+        assert is_closed(other)
+    await_status(server, unlisted=1, applications=0)
+    assert_stopped(server)
+
+
+class Strangers:
+    """Clients that connect, say nothing, and come again when they are closed."""
+
+    def __init__(self, address: tuple[str, int], count: int) -> None:
+        self.address = address
+        self.links: list[Link] = []
+        for _ in range(count):
+            self.come()
+
+    def come(self) -> None:
+        """One more connects, if it can."""
+        try:
+            self.links.append(Link(self.address, patience=0.2))
+        except (Silent, OSError):
+            pass
+
+    def come_again(self) -> None:
+        """Those that were closed come again."""
+        closed = [link for link in self.links if is_closed(link, 0)]
+        for link in closed:
+            self.links.remove(link)
+            link.close()
+            self.come()
+
+    def close(self) -> None:
+        """All of them leave."""
+        for link in self.links:
+            link.close()
+
+
+@pytest.mark.timed
+@pytest.mark.usefixtures("proved")
+def test_silent_strangers(server: Program) -> None:
+    """400 strangers that stay silent, and come again when they are closed, don't keep the listed
+    gateway out."""
+    assert server.address
+    with Application(server.address, OWNER) as application:
+        await_status(server, applications=1)
+        strangers = Strangers(server.address, SILENT)
+        try:
+            for number in range(TRIES):
+                strangers.come_again()
+                assert uplink_comes(server, application, number + 1)
+        finally:
+            strangers.close()
+    assert int(await_status(server, links=0)["silent"]) > 0
+    assert server.stop()[0] == 0
+
+
+def test_reload(server: Program, names: Path) -> None:
+    """A list that was changed is read again by `lnsd reload`: a new name may connect, and the link
+    of a name that isn't there any more is closed."""
+    assert server.address
+    with Gateway(server.address, EUI) as first, Application(server.address, OWNER) as application:
+        await_status(server, links=2, gateways=1, applications=1)
+        names.write_text(f"application {OWNER}\ngateway {OTHER}\n", encoding="utf-8")
+        assert server.run("reload", server.store) == (0, "", "")
+        assert is_closed(first)
+        with Gateway(server.address, OTHER) as second:
+            await_status(server, gateways=1, links=2, unlisted=0)
+            assert not is_closed(second, 0)
+        application.asks("hello")
+        assert application.hears() == "refused 51"
+    with Gateway(server.address, EUI) as first:
+        assert is_closed(first)
+    await_status(server, unlisted=1, links=0)
+    assert_stopped(server)
+
+
+@pytest.mark.parametrize("line", WRONG, ids=ascii)
+def test_wrong_line(server: Program, names: Path, line: str) -> None:
+    """A list with a wrong line is refused by `run`, which doesn't open the store, and by `reload`,
+    after which the old list holds."""
+    names.write_text(f"{LISTED}{line}\n", encoding="utf-8")
+    assert server.run("reload", server.store) == failure("names line 3")
+    assert server.address
+    with Gateway(server.address, EUI):
+        await_status(server, gateways=1)
+    await_status(server, links=0)
+    assert_stopped(server)
+    due = (1, "", f"lnsd: names line 3\nlnsd: {NO_NAME}\n")
+    assert run(server, names) == due
+
+
+def run(server: Program, names: Path | str, links: int = PLACES, store: str = "") -> tuple:
+    """How `lnsd run` ends with this list."""
+    words = ["run", store or server.store, "--listen", f"{HOST}:{free_port()}"]
+    return server.run(*words, "--links", str(links), "--names", str(names))
+
+
+def test_lists_that_are_refused(new_server: NewServer, names: Path) -> None:
+    """A list that can't be read, or has too many names, is refused before the store is opened."""
+    server, gone = new_server(), "no store"
+    due = (1, "", "lnsd: names file\nlnsd: not found\n")
+    assert run(server, f"{names}.gone", store=gone) == due
+    many = "".join(f"gateway {number:016X}\n" for number in range(65))
+    names.write_text(many, encoding="utf-8")
+    due = (1, "", "lnsd: names gateways\nlnsd: more than 64 gateways\n")
+    assert run(server, names, store=gone) == due
+    names.write_text("".join(many.splitlines(True)[:3]), encoding="utf-8")
+    cause = "more names than places; --links is at least one more"
+    due = (1, "", f"lnsd: names places\nlnsd: {cause}\n")
+    assert run(server, names, 3, store=gone) == due
+    assert server.list() == ["devices 0 seq 0"]
+
+
+def test_server_without_a_list(new_server: NewServer) -> None:
+    """A server that was started without a list has nothing to read again."""
+    server = new_server()
+    assert server.run("reload", server.store) == failure("not running")
+    server.run_on()
+    due = (1, "", "lnsd: no names\nlnsd: the server runs without --names\n")
+    assert server.run("reload", server.store) == due
+    assert_stopped(server)
