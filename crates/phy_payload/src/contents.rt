@@ -52,7 +52,10 @@ impl Contents {
         requires { length f_opts + frm_payload_len port_payload ≤ LONGEST_PAYLOAD }
         ensures { result ≡ carried_contents f_opts port_payload }
     {
-        Contents { f_opts, port_payload }
+        Contents {
+            f_opts,
+            port_payload,
+        }
     }
 
     /// FOpts, at most 15 bytes.
@@ -78,7 +81,10 @@ impl Contents {
         ensures port_payload { result.1 ≡ self.port_payload }
         ensures fits { length self.f_opts + frm_payload_len self.port_payload ≤ LONGEST_PAYLOAD }
     {
-        let Contents { f_opts, port_payload } = self;
+        let Contents {
+            f_opts,
+            port_payload,
+        } = self;
         (f_opts, port_payload)
     }
 }

@@ -5,6 +5,7 @@
 //! for some n at which a batch ended.
 #![tactic(auto)]
 
+mod area_table;
 mod areas;
 mod begin;
 mod checkpointing;
@@ -13,6 +14,7 @@ mod establishing;
 mod formatting;
 mod found;
 pub mod laws;
+mod migrating;
 mod opening;
 mod pairing;
 mod phases;
@@ -20,9 +22,7 @@ mod preparing;
 mod publishing;
 mod recover;
 mod replacing;
-mod area_table;
 mod store;
-mod migrating;
 mod under_way;
 
 pub use areas::{LAST_GENERATION, LAST_OLD_GENERATION, RECORD_VERSION};

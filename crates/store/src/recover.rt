@@ -17,9 +17,9 @@ ghost use Rattle.store.specs.Faults.{IsUsable};
 ghost use Rattle.store.specs.Found.{IsFound, is_device_refusal};
 ghost use Rattle.store.specs.Image.{AreAreas};
 
+use crate::area_table::area_table;
 use crate::areas::{first_area, last_generation, second_area};
 use crate::found::Found;
-use crate::area_table::area_table;
 use disk::Disk;
 use gate_log::{Area, Header, Live, Opening, RecoverError, Recovered};
 use lw_types::Refusal;

@@ -134,7 +134,13 @@ fn commands(
     match frame.port_payload() {
         Some(port_payload) if port_payload.f_port == 0 => {
             let key = &session.session.nwk_skey;
-            decrypted(alloc, key, session, frame.dev_addr(), port_payload.frm_payload)
+            decrypted(
+                alloc,
+                key,
+                session,
+                frame.dev_addr(),
+                port_payload.frm_payload,
+            )
         }
         Some(_) => Payload::from_slice(alloc, frame.f_opts()),
         None => Payload::from_slice(alloc, frame.f_opts()),
@@ -235,7 +241,13 @@ fn forward(
         return Ok(());
     };
     let key = &session.session.app_skey;
-    let payload = decrypted(alloc, key, session, frame.dev_addr(), port_payload.frm_payload)?;
+    let payload = decrypted(
+        alloc,
+        key,
+        session,
+        frame.dev_addr(),
+        port_payload.frm_payload,
+    )?;
     effects.push(Effect::Forward {
         application: device.application,
         session: SessionName {

@@ -4,10 +4,10 @@
 
 mod answer;
 mod commit;
+mod condition;
 pub mod laws;
 mod life;
 mod links;
-mod condition;
 mod runs;
 mod step;
 mod turns;

@@ -1,8 +1,8 @@
 // The world.
 ghost use Rattle.std.specs.Prelude.{◌≡◌};
 
-use crate::life::Life;
 use crate::condition::Condition;
+use crate::life::Life;
 use crate::{Answer, Step, laws};
 use disk::{Image, Sim};
 use flusher::Released;

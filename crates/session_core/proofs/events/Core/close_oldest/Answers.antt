@@ -28,14 +28,14 @@ invariant_of-self-in-Ok-Some c =
 pub unwrap-heard-requires : goal.unwrap-heard-requires
 unwrap-heard-requires c =
     let refuses : RefusesOldest c.get-now.result c.self.inside.decisions c.self.inside.windows c.in-Err.refusal
-        × ((c.keep_oldest.new.self ≡ c.self.inside.decisions) × (c.keep_oldest.new.windows ≡ c.self.inside.windows)) = c.in-Err.ensures in
+    × ((c.keep_oldest.new.self ≡ c.self.inside.decisions) × (c.keep_oldest.new.windows ≡ c.self.inside.windows)) = c.in-Err.ensures in
     there-is c.get-now.result c.keep_oldest.new.windows refuses.0.rest c.close.new.self refuses.0.heard c.close.result
     (subst (λ (ws : List Window). IsOldestDue c.get-now.result ws refuses.0.heard refuses.0.rest) (sym refuses.1.1) refuses.0.oldest) c.close.ensures
 
 pub invariant_of-self-in-Err : goal.invariant_of-self-in-Err
 invariant_of-self-in-Err c =
     let refuses : RefusesOldest c.get-now.result c.self.inside.decisions c.self.inside.windows c.in-Err.refusal
-        × ((c.keep_oldest.new.self ≡ c.self.inside.decisions) × (c.keep_oldest.new.windows ≡ c.self.inside.windows)) = c.in-Err.ensures in
+    × ((c.keep_oldest.new.self ≡ c.self.inside.decisions) × (c.keep_oldest.new.windows ≡ c.self.inside.windows)) = c.in-Err.ensures in
     let closed = MatchOption-at_some ((c.close.new.self ≡ c.keep_oldest.new.windows) × NoneDue c.get-now.result c.keep_oldest.new.windows)
     (λ (x : Heard). IsOldestDue c.get-now.result c.keep_oldest.new.windows x c.close.new.self) c.unwrap-heard.result c.unwrap-heard.ensures c.close.ensures in
     let there = subst (λ (ws : List Window). IsOldestDue c.get-now.result ws c.unwrap-heard.result c.close.new.self) refuses.1.1 closed in
@@ -48,13 +48,13 @@ invariant_of-self-in-Err c =
 pub returns-in-Ok-None : goal.returns-in-Ok-None
 returns-in-Ok-None c =
     let none : NoneDue c.get-now.result c.self.inside.windows
-        × ((c.keep_oldest.new.self ≡ c.self.inside.decisions) × (c.keep_oldest.new.windows ≡ c.self.inside.windows)) =
+    × ((c.keep_oldest.new.self ≡ c.self.inside.decisions) × (c.keep_oldest.new.windows ≡ c.self.inside.windows)) =
     subst (λ (o : Option DecidedFrame). KeepsOldest c.get-now.result c.self.inside.decisions c.self.inside.windows (Ok o) c.keep_oldest.new.self c.keep_oldest.new.windows)
     c.in-Ok-None.field-0-is c.in-Ok-None.ensures in
     let due = due-none c.self.inside.clock c.self.inside.windows (subst (λ now. NoneDue now c.self.inside.windows) c.get-now.ensures.value none.0) in (
       (
         ap (λ (d : DecisionsState). record (core_of c.self.inside) { decisions = d; windows = c.keep_oldest.new.windows }) none.1.0
-        ∙ (ap (λ (ws : List Window). record (core_of c.self.inside) { windows = ws }) none.1.1 ∙ c.self.view_is),
+            ∙ (ap (λ (ws : List Window). record (core_of c.self.inside) { windows = ws }) none.1.1 ∙ c.self.view_is),
         refl,
       ),
       subst (λ (s : CoreState). has_due s ≡ false) c.self.view_is due,
@@ -72,7 +72,7 @@ returns-in-Ok-Some c =
 pub returns-else-is_starved : goal.returns-else-is_starved
 returns-else-is_starved c =
     let refuses : RefusesOldest c.get-now.result c.self.inside.decisions c.self.inside.windows c.in-Err.refusal
-        × ((c.keep_oldest.new.self ≡ c.self.inside.decisions) × (c.keep_oldest.new.windows ≡ c.self.inside.windows)) = c.in-Err.ensures in
+    × ((c.keep_oldest.new.self ≡ c.self.inside.decisions) × (c.keep_oldest.new.windows ≡ c.self.inside.windows)) = c.in-Err.ensures in
     let memory = subst (λ b. MatchBool b (c.in-Err.refusal ≡ OutOfMemory) (c.in-Err.refusal ≢ OutOfMemory)) c.if-is_starved.false c.is_starved.ensures in
     let closed = MatchOption-at_some ((c.close.new.self ≡ c.keep_oldest.new.windows) × NoneDue c.get-now.result c.keep_oldest.new.windows)
     (λ (x : Heard). IsOldestDue c.get-now.result c.keep_oldest.new.windows x c.close.new.self) c.unwrap-heard.result c.unwrap-heard.ensures c.close.ensures in
