@@ -133,7 +133,8 @@ IsNeeded Amend column = column ≡ c.DevEui
 
 -- the text under a column is no value of it
 abbrev pub IsWrongValue : Column → Option (List ℕ) → Type 0 → LineFault → Type 0
-IsWrongValue column field Given wrong = (wrong ≡ fault.Value column) × (¬ (IsAbsent field)) × ¬ Given
+IsWrongValue column field Given wrong =
+    (wrong ≡ fault.Value column) × (¬ (IsAbsent field)) × ¬ Given
 
 -- the same, or there is no text
 abbrev pub IsMissingOrWrong : Column → Option (List ℕ) → Type 0 → LineFault → Type 0

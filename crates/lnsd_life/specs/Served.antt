@@ -69,7 +69,8 @@ pub record CommitsInOrder (old new : StoreState) (before : TakerState) (result :
 
 -- What a life committed of the history of its decisions: a beginning of it, or all of it if there
 -- is a report, which has the number.
-pub record CommitsHistory (old new : StoreState) (result : Result LifeReport ServeFault) : Type 0 where
+pub record CommitsHistory (old new : StoreState) (result : Result LifeReport ServeFault)
+    : Type 0 where
   pub history : List Decision
   pub committed : List Decision
   pub next : IsPrefix committed history
@@ -93,8 +94,8 @@ pub record IsRun {D : Type 0} (disk : Ghosts D) (old : Store D disk) (before : T
 
 -- How serving leaves a store, and what it reports. If there is a report, its shares sum to the
 -- number of decisions made, by which the store's number grew, and no call of the disk failed.
--- Otherwise the fault says why. What was committed is what was decided. The lives that led the store
--- here go on.
+-- Otherwise the fault says why. What was committed is what was decided. The lives that led the
+-- store here go on.
 pub record IsServed {D : Type 0} (disk : Ghosts D) (old : Store D disk)
     (result : Result LifeReport ServeFault) (new : Store D disk) : Type 0 where
   pub shares : IfOk result (λ report. sum report.shares.items ≡ report.made)

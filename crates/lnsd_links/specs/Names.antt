@@ -55,8 +55,8 @@ pub record IsNameListOf (lines : List (List ℕ)) (list : NameList) : Type 0 whe
 abbrev pub AreBefore : List (List ℕ) → List ℕ → List (List ℕ) → Type 0
 AreBefore before line lines = (after : List (List ℕ)) × (lines ≡ before ++ line ∷ after)
 
--- Why lines aren't taken as a list. The number is that of the first line that isn't right. Or a line
--- lists a gateway after 64 others. Or memory ran out.
+-- Why lines aren't taken as a list. The number is that of the first line that isn't right. Or a
+-- line lists a gateway after 64 others. Or memory ran out.
 abbrev pub IsNoNameListOf : List (List ℕ) → NameListFault → Type 0
 IsNoNameListOf lines (faults.Line number) =
     (before : List (List ℕ)) × ((line : List ℕ) × (AreBefore before line lines

@@ -63,8 +63,8 @@ pub record RefusesOldest (now : ℕ) (old : DecisionsState) (ws : List Window)
   pub oldest : IsOldestDue now ws heard rest
   pub kept : Keeps old (commands.Heard heard) (Err refusal) old
 
--- the frame of the oldest window was handed in, if the window is due; unless it was decided, nothing
--- changed
+-- the frame of the oldest window was handed in, if the window is due; unless it was decided,
+-- nothing changed
 abbrev pub KeepsOldest : ℕ → DecisionsState → List Window → Result (Option DecidedFrame) Refusal
     → DecisionsState → List Window → Type 0
 KeepsOldest now old ws (Ok None) new left = NoneDue now ws × ((new ≡ old) × (left ≡ ws))

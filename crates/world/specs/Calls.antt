@@ -123,8 +123,8 @@ ForetellsOpening failures outlook disk answer condition =
     × AreCallsAt failures outlook (calls_after calls (steps.Crash image) answer) condition
 
 -- of a step of a world
-abbrev pub ForetellsAt : {D : Type 0} {g : _} → (D → ℕ) → (D → Outlook) → Condition D g → Step → Answer
-    → Condition D g → Type 0
+abbrev pub ForetellsAt : {D : Type 0} {g : _} → (D → ℕ) → (D → Outlook) → Condition D g → Step
+    → Answer → Condition D g → Type 0
 ForetellsAt failures outlook old step answer new =
     (calls : CallRecord) → AreCallsAt failures outlook calls old
     → IsForetold calls step answer × AreCallsAt failures outlook (calls_after calls step answer) new

@@ -114,7 +114,8 @@ abbrev pub FollowsClosed : {D : Type 0} → (D → State) → Origin → Course 
 FollowsClosed state origin c disk =
     (c.is_open ≡ false) × Survives origin c (state disk)
 
-abbrev pub FollowsCondition : {D : Type 0} {g : _} → (D → State) → Origin → Course → Condition D g → Type 0
+abbrev pub FollowsCondition : {D : Type 0} {g : _} → (D → State) → Origin → Course → Condition D g
+    → Type 0
 FollowsCondition state origin c (Open life) = (c.is_open ≡ true) × FollowsLife state origin c life
 FollowsCondition state origin c (Closed disk) = FollowsClosed state origin c disk
 FollowsCondition state origin c Crashing = ⊥
@@ -187,8 +188,8 @@ IsLeft origin c table seq =
     × (seq ≡ number_from origin kept)
 
 -- an opening with this answer led here
-abbrev pub IsOpenedCondition : {D : Type 0} {g : _} → (D → State) → Origin → Course → Answer → Condition D g
-    → Type 0
+abbrev pub IsOpenedCondition : {D : Type 0} {g : _} → (D → State) → Origin → Course → Answer
+    → Condition D g → Type 0
 IsOpenedCondition state origin c answer condition =
     AnswersCrash origin c answer
     × ((image : Image) → FollowsCondition state origin
@@ -201,8 +202,8 @@ Reopens state disk answer condition =
     → IsOpenedCondition state origin c answer condition
 
 -- and for a store that was opened
-abbrev pub IsBegunCondition : {D : Type 0} {g : _} → (D → State) → Store D g → Answer → Condition D g
-    → Type 0
+abbrev pub IsBegunCondition : {D : Type 0} {g : _} → (D → State) → Store D g → Answer
+    → Condition D g → Type 0
 IsBegunCondition state store answer condition =
     (origin : Origin) (c : Course)
     → IsLeft origin c (store_state state store).table (store_state state store).seq

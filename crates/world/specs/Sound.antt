@@ -28,13 +28,15 @@ abbrev pub HasRoom : Pipeline → ℕ → ℕ → Type 0
 HasRoom commits there fit = HasRoomForEach (flights_begun commits) there fit
 
 abbrev pub IsSoundCondition : {D : Type 0} {g : _} → (D → State) → Condition D g → ℕ → ℕ → Type 0
-IsSoundCondition state (Open life) there fit = IsSoundLife state life × HasRoom life.commits there fit
+IsSoundCondition state (Open life) there fit =
+    IsSoundLife state life × HasRoom life.commits there fit
 IsSoundCondition state (Closed disk) there fit = Unit {0}
 IsSoundCondition state Crashing there fit = ⊥
 
 abbrev pub IsSoundWorld : {D : Type 0} {g : _} → (D → State) → World D g → Type 0
 IsSoundWorld state world =
-    IsSoundCondition state world.condition (length world.released.items) (vec_capacity world.released)
+    IsSoundCondition state world.condition (length world.released.items)
+        (vec_capacity world.released)
 
 -- not within a crash
 abbrev pub IsSomewhere : {D : Type 0} {g : _} → Condition D g → Type 0

@@ -64,7 +64,8 @@ TellsRoom s commits (steps.Next most) answer = NextTells s commits answer
 TellsRoom s commits steps.Checkpoint answer = CheckpointTells s answer
 TellsRoom s commits step answer = Unit {0}
 
-abbrev pub ConditionTellsRoom : {D : Type 0} {g : _} → (D → State) → Condition D g → Step → Answer → Type 0
+abbrev pub ConditionTellsRoom : {D : Type 0} {g : _} → (D → State) → Condition D g → Step → Answer
+    → Type 0
 ConditionTellsRoom state (Open life) step answer =
     TellsRoom (store_state state life.store) life.commits step answer
 ConditionTellsRoom state (Closed disk) step answer = Unit {0}
@@ -78,12 +79,14 @@ pub record IsOpenedFrom (left : List ℕ) (now : State) : Type 0 where
   pub keeps : StillHolds left now
 
 -- the disk of a world has crashed to this image, and a store was opened from what was left
-abbrev pub CrashesTo : {D : Type 0} {g : _} → (D → State) → Image → Condition D g → Condition D g → Type 0
+abbrev pub CrashesTo : {D : Type 0} {g : _} → (D → State) → Image → Condition D g → Condition D g
+    → Type 0
 CrashesTo {D} state image old new =
     (before now : D) → HasDisk old before → HasDisk new now
     → (left : List ℕ) × IsCrashed image (state before) left × IsOpenedFrom left (state now)
 
 -- a crash leaves the image that it names
-abbrev pub LeavesImage : {D : Type 0} {g : _} → (D → State) → Condition D g → Step → Condition D g → Type 0
+abbrev pub LeavesImage : {D : Type 0} {g : _} → (D → State) → Condition D g → Step → Condition D g
+    → Type 0
 LeavesImage state old (steps.Crash image) new = CrashesTo state image old new
 LeavesImage state old step new = Unit {0}
