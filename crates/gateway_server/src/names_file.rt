@@ -3,7 +3,7 @@ use crate::Fault;
 use lnsd_life::{NameList, NameListFault, NameSource, PlaceCount};
 use lnsd_links::read_names;
 use std::alloc::Global;
-use std::fs::File;
+use std::fs::{File, metadata};
 use std::io;
 use std::io::{ErrorKind, Read};
 use std::rt::Files;
@@ -38,13 +38,21 @@ impl<'a, R: Files<File = File>> NamesFile<'a, R> {
         }
     }
 
+    // A pipe isn't opened: that would wait until it is written to.
     fn text(&self) -> io::Result<String> {
-        let mut file = File::open(self.rt, self.path)?;
-        if file.metadata()?.len() > LONGEST {
-            return Err(io::Error::from(ErrorKind::FileTooLarge));
+        let metadata = metadata(self.rt, self.path)?;
+        if metadata.is_dir() {
+            return Err(io::Error::from(ErrorKind::IsADirectory));
+        }
+        if !metadata.is_file() {
+            return Err(io::Error::from(ErrorKind::InvalidInput));
         }
         let mut text = String::new(self.alloc);
-        let _ = file.read_to_string(&mut text)?;
+        let file = File::open(self.rt, self.path)?;
+        let _ = file.take(LONGEST + 1).read_to_string(&mut text)?;
+        if text.len() as u64 > LONGEST {
+            return Err(io::Error::from(ErrorKind::FileTooLarge));
+        }
         Ok(text)
     }
 }

@@ -12,7 +12,7 @@ use lnsd_life::{
     LifeReport, LinkCount, Monotonic, OnBegun, OpenGate, PlaceCount, ServedLife, serve_links,
     serve_on,
 };
-use lnsd_operator::DiskTimes;
+use lnsd_operator::{DiskTimes, ServeFault};
 use std::alloc::Global;
 use std::fs::File;
 use std::io;
@@ -67,7 +67,17 @@ where
         listen,
         links,
     };
-    match result {
+    finished(mode, result)
+}
+
+// What a life that this mode asked for came to.
+fn finished<'a>(
+    mode: Mode<'a>,
+    end: Result<LifeReport, ServeFault>,
+) -> Result<FinishedLife<'a>, Fault>
+    ensures { IfOk result (λ life. life.mode ≡ mode) }
+{
+    match end {
         Ok(report) => Ok(FinishedLife { mode, report }),
         Err(fault) => Err(Fault::from(fault)),
     }
@@ -75,8 +85,9 @@ where
 
 /// Serves links that come and go, at most this number at a time, from the store in a file, until
 /// the server is stopped over its control socket. If a file of names is given, only these may
-/// greet; a list that isn't taken is refused before the store is opened. Prints on `out` where it
-/// listens, when the life has begun. Informs the operator who stopped it when the file is free.
+/// greet; a list that isn't taken is refused before the store is opened, unless the file changes
+/// meanwhile. Prints on `out` where it listens, when the life has begun. Informs the operator who
+/// stopped it when the file is free.
 pub(crate) fn run_server<'a, R, O: Write>(
     rt: &R,
     alloc: Global,
@@ -92,13 +103,7 @@ where
     R::Dir: Send + Sync,
     ensures { IfOk result (λ life. life.mode ≡ Mode.Run file.entry listen.entry links names.entry) }
 {
-    let source = match names {
-        Some(path) => Some(NamesFile { rt, alloc, path }),
-        None => None,
-    };
-    if let Some(source) = &source {
-        source.check(links)?;
-    }
+    let source = source_of(rt, alloc, names, links)?;
     drop(hold_descriptors(rt, alloc, links)?);
     let times = DiskTimes::new();
     let store = open_timed(rt, alloc, file, &times)?;
@@ -135,12 +140,24 @@ where
         links,
         names,
     };
-    let ended = match result {
-        Ok(report) => Ok(FinishedLife { mode, report }),
-        Err(fault) => Err(Fault::from(fault)),
-    };
+    let ended = finished(mode, result);
     tell_end(waiting, &ended);
     ended
+}
+
+// The file of the names that may greet, if there is one, after its list was taken once.
+fn source_of<'a, R: Files<File = File>>(
+    rt: &'a R,
+    alloc: Global,
+    names: Option<&'a str>,
+    places: PlaceCount,
+) -> Result<Option<NamesFile<'a, R>>, Fault> {
+    let Some(path) = names else {
+        return Ok(None);
+    };
+    let source = NamesFile { rt, alloc, path };
+    source.check(places)?;
+    Ok(Some(source))
 }
 
 // Where links come in, and the clock of the life.

@@ -67,8 +67,8 @@ pub record CommitsInOrder (old new : StoreState) (before : TakerState) (result :
   pub all : IfOk result (λ taken. (committed ≡ drop before.taken after.seen)
       × ((after.taken ≡ length after.seen) × (taken ≡ after.taken)))
 
--- What a life committed of the history of its decisions: a beginning of it, or all of it if there
--- is a report, which has the number.
+-- What a life committed: a beginning of some list of decisions, and all of it if there is a report,
+-- which has the number.
 pub record CommitsHistory (old new : StoreState) (result : Result LifeReport ServeFault)
     : Type 0 where
   pub history : List Decision
@@ -80,8 +80,8 @@ pub record CommitsHistory (old new : StoreState) (result : Result LifeReport Ser
 
 -- How a life whose threads ran leaves its store. If the life ended well, no call of the disk
 -- failed, and the store's number grew by as many decisions as were taken in it: `before` says what
--- was taken when it began. Otherwise the refusal says why. What was committed is what was decided.
--- The lives that led the store here go on.
+-- was taken when it began. Otherwise the refusal says why. What was committed comes next in a
+-- history of which the taker had seen a part. The lives that led the store here go on.
 pub record IsRun {D : Type 0} (disk : Ghosts D) (old : Store D disk) (before : TakerState)
     (result : Result ℕ Refusal) (new : Store D disk) : Type 0 where
   pub healthy : OnOk result (NoneFailed disk.failures disk.outlook old new)
@@ -94,8 +94,8 @@ pub record IsRun {D : Type 0} (disk : Ghosts D) (old : Store D disk) (before : T
 
 -- How serving leaves a store, and what it reports. If there is a report, its shares sum to the
 -- number of decisions made, by which the store's number grew, and no call of the disk failed.
--- Otherwise the fault says why. What was committed is what was decided. The lives that led the
--- store here go on.
+-- Otherwise the fault says why. What was committed is a beginning of some list of decisions, and
+-- all of it if there is a report. The lives that led the store here go on.
 pub record IsServed {D : Type 0} (disk : Ghosts D) (old : Store D disk)
     (result : Result LifeReport ServeFault) (new : Store D disk) : Type 0 where
   pub shares : IfOk result (λ report. sum report.shares.items ≡ report.made)

@@ -61,9 +61,10 @@ use store::Store;
 /// return, since an input may never end.
 ///
 /// The contract says only this: the shares sum to the number of decisions made. If there is a
-/// report, the store's number grew by this number, and no call of the disk failed. If there is
-/// none, it says why. And the store was led on from where it was. The calls that it makes have
-/// proofs of their own; the rest is shown by tests on sockets.
+/// report, the store's number grew by this number, no call of the disk failed, and the report has
+/// a share of each link and one of the closer. If there is none, it says why. The store was led on
+/// from where it was, by a beginning of some list of decisions, and by all of it if there is a
+/// report. The calls that it makes have proofs of their own; the rest is shown by tests on sockets.
 pub fn serve_links<
     'x,
     R: Threads + Wait + Sync,
@@ -127,9 +128,12 @@ pub fn serve_links<
 /// next link, except for those that were being written when a link failed. What waits for an
 /// application that has no link at the end is dropped and counted.
 ///
+/// A link may send 1,000 copies a second, and 400 at once if it has sent none for 0.4 seconds. A link
+/// that has sent more is read later.
+///
 /// Operators come in through a listener of their own, eight at a time, and send one [`Order`] each.
-/// The connection of an operator who sends nothing for two seconds is closed. What operators see of
-/// the disk is in `times`.
+/// The connection of an operator who sends nothing for two seconds is closed, and after 0.1 seconds
+/// if eight are connected. What operators see of the disk is in `times`.
 ///
 /// If `names` is given, only the names of its list may greet. The list is read when the life
 /// begins, and again when an operator orders it with [`Order::Reload`]. A life doesn't begin with a
@@ -137,7 +141,7 @@ pub fn serve_links<
 /// with another name is closed and counted, and takes no name over. A new list closes the links
 /// whose names it doesn't have; a list that isn't taken leaves the old one. While all places are
 /// taken, a link has to greet within a second divided by the number of links that haven't greeted,
-/// so that silent links don't keep a listed name out.
+/// so that a place soon becomes free. A listed link gets it if its greeting comes within that time.
 ///
 /// `on_begun` is called when every thread of the life runs. If a thread can't be started, it isn't
 /// called, and the life is refused with `OutOfMemory`.
@@ -204,7 +208,7 @@ fn policy_and_names<S: NameSource>(
 {
     match names {
         Some(source) => listed(source, places),
-        None => Ok((anew(false), None)),
+        None => Ok((anew(None), None)),
     }
 }
 
@@ -219,7 +223,7 @@ fn listed<S: NameSource>(
     ensures refused { IfErr result IsOfBeginning }
 {
     match read_names(source, places.get() as usize) {
-        Ok(list) => Ok((anew(true), Some(list))),
+        Ok(list) => Ok((anew(Some(CROWDED_WAIT)), Some(list))),
         Err(fault) => Err(ServeFault::Names(fault)),
     }
 }
@@ -234,32 +238,45 @@ const ONCE: Policy = Policy {
     copies: CopyRate::Unlimited,
 };
 
-// A life whose links come and go. If the names that may greet are listed, the links that haven't
-// greeted share a second while all places are taken.
-fn anew(is_listed: bool) -> Policy
+// How long a link has to greet, in milliseconds.
+const GREETING_WAIT: u64 = 10_000;
+
+// The time that the links which haven't greeted share while all places are taken, in milliseconds,
+// if the names that may greet are listed.
+const CROWDED_WAIT: u64 = 1000;
+
+// How many copies a link may send in a second.
+const RATE: u64 = 1000;
+
+// How many copies it may send at once. A worker pays for what it has read at a time before it reads
+// on, so these have to be more than the copies of one read.
+const BURST: u64 = 400;
+
+// A life whose links come and go.
+fn anew(crowded_wait: Option<u64>) -> Policy
     ensures { result ≡ record {
       greeting_wait = Some 10000;
       takes_over = true;
       keeps_links = false;
-      crowded_wait = cond is_listed (Some 1000) None;
+      crowded_wait = crowded_wait;
       lines_wait = true;
       copies = PerSecond 1000 400;
     } }
 {
     Policy {
-        greeting_wait: Some(10_000),
+        greeting_wait: Some(GREETING_WAIT),
         takes_over: true,
         keeps_links: false,
-        crowded_wait: if is_listed { Some(1000) } else { None },
+        crowded_wait,
         lines_wait: true,
         copies: CopyRate::PerSecond {
-            copies: CopyCount::new(1000).unwrap(),
-            burst: CopyCount::new(400).unwrap(),
+            copies: CopyCount::new(RATE).unwrap(),
+            burst: CopyCount::new(BURST).unwrap(),
         },
     }
 }
 
-// No list: every name may greet.
+// Stands for the source of a list where there is none. It is never read.
 struct NoNames;
 
 impl NameSource for NoNames {
@@ -401,6 +418,7 @@ fn serve_life<
         control,
         sessions: Mutex::new(shared),
         directory: Mutex::new(directory),
+        reloading: Mutex::new(()),
         lines,
     };
     let end = run(&*context, &server, source, store, taker, parts, on_begun);

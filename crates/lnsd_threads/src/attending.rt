@@ -6,7 +6,7 @@ use crate::context::Context;
 use crate::server::LiveServer;
 use crate::status::{devices_text, status_text};
 use crate::{Gate, LifeClock};
-use lnsd_links::{LifeStage, NameSource, is_passing, read_names};
+use lnsd_links::{LifeStage, NameSource, is_passing};
 use lnsd_operator::{ControlSocket, Order, Waiting, Watch};
 use lw_types::Refusal;
 use session_core::Books;
@@ -22,7 +22,7 @@ pub const WATCHING: &str = "watching\n";
 /// Sent when all places for watchers are taken.
 pub const BUSY: &str = "busy\n";
 
-/// Sent when the list of the names that may greet was read again.
+/// Sent when the list of the names that may greet was read again and replaced.
 pub const RELOADED: &str = "reloaded\n";
 
 /// Sent in answer to `reload` if there is no such list.
@@ -151,18 +151,16 @@ impl<'x, B: Books, R: Wait, G: Gate, C: LifeClock, S: NameSource> Attendant<'x, 
         None
     }
 
-    // Reads the list of the names that may greet again, and returns the answer. If that fails, the
-    // list stays as it was.
+    // Reads again the list of the names that may greet, and returns the answer. If that fails, the
+    // list stays as it was. The answer takes its memory first, so that a new list is answered.
     fn reload(&self) -> Result<String, Refusal> {
         let alloc = self.context.alloc;
         let Some(source) = self.names else {
             return Ok(String::from_str(alloc, NO_NAMES)?);
         };
-        match read_names(source, self.server.links.len()) {
-            Ok(list) => {
-                self.server.relist(self.context.rt, list);
-                Ok(String::from_str(alloc, RELOADED)?)
-            }
+        let reloaded = String::from_str(alloc, RELOADED)?;
+        match self.server.reload(self.context.rt, source) {
+            Ok(()) => Ok(reloaded),
             Err(fault) => Ok(format!(in alloc; "{fault}\n")?),
         }
     }

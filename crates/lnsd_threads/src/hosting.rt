@@ -362,7 +362,7 @@ impl<'x, B: Books, R: Wait, G: Gate, C: LifeClock> Worker<'x, B, R, G, C> {
     // Gives the link its name, and closes the link that had it, if names are taken over. The
     // directory stays locked meanwhile. The older link's worker has to leave the directory before
     // its place goes to the next link, so the next link isn't closed in place of the older one. If
-    // the link gets no name, it counts as faulted.
+    // the link gets no name, it counts as unlisted or as faulted.
     fn take_over(&self, name: &Recipient) -> Option<HeldName>
         ensures held { IfSome result (IsHeld name.now self.now.number) }
     {

@@ -7,16 +7,19 @@ ghost use Rattle.lnsd_links.specs.declared.rings.WaitingLines.{WaitingLines};
 ghost use Rattle.lw_types.specs.declared.identifiers.Eui.{Eui};
 
 use gateway_wire::Recipient;
-use lnsd_links::{Directory, Entrance, LifeStage, Link, NameList, Policy, Signals, WaitingLines};
+use lnsd_links::{
+    Directory, Entrance, LifeStage, Link, NameListFault, NameSource, Policy, Signals, WaitingLines,
+    read_names,
+};
 use lnsd_operator::ControlSocket;
 use session_core::{Books, Shared};
 use std::sync::{Mutex, Wait};
 
-/// The links, the data behind locks, and the signals. No thread holds both locks at once, nor one
-/// of them while it reads, writes or syncs. While the directory is locked, a greeting closes an
-/// older link of its name, and sends an event to the operators who watch; and a new list of names
-/// closes links. This takes the locks of these links' sockets and of the watchers' places; nothing
-/// else takes a lock while the directory is locked.
+/// The links, the data behind locks, and the signals. No thread holds the locks of the sessions and
+/// of the directory at once, nor one of them while it reads, writes or syncs. While the directory is
+/// locked, a greeting closes an older link of its name, and sends an event to the operators who
+/// watch; and a new list of names closes links. This takes the locks of these links' sockets and of
+/// the watchers' places; nothing else takes a lock while the directory is locked.
 #[derive(Drop)]
 pub struct LiveServer<B: Books> {
     pub links: Vec<Link>,
@@ -26,6 +29,9 @@ pub struct LiveServer<B: Books> {
     pub control: Option<ControlSocket>,
     pub sessions: Mutex<Shared<B>>,
     pub directory: Mutex<Directory>,
+    // Held while the list of the names that may greet is read and replaced, so that no older list
+    // follows a newer one.
+    pub reloading: Mutex<()>,
     // For each application, the lines that wait for it, if lines wait.
     pub lines: Vec<WaitingLines>,
     pub signals: Signals,
@@ -56,11 +62,19 @@ impl<B: Books> LiveServer<B> {
         }
     }
 
-    /// Replaces the list of the names that may greet, and closes the links whose names aren't
-    /// listed any more.
-    pub(crate) fn relist<R: Wait>(&self, rt: &R, list: NameList) {
-        let links = self.links.as_slice();
-        self.directory.lock(rt).relist(rt, links, list);
+    /// Reads the list of the names that may greet, replaces the one before, and closes the links
+    /// whose names aren't listed any more. If the list isn't taken, the one before stays.
+    pub(crate) fn reload<R: Wait, S: NameSource>(
+        &self,
+        rt: &R,
+        source: &S,
+    ) -> Result<(), NameListFault> {
+        let _reloading = self.reloading.lock(rt);
+        let list = read_names(source, self.links.len())?;
+        self.directory
+            .lock(rt)
+            .relist(rt, self.links.as_slice(), list);
+        Ok(())
     }
 
     /// The lines that wait for an application, if applications have rings of their own.

@@ -32,3 +32,11 @@ told_true xs ys r e same = go r (told_text xs ys r e)
     go : (r : Bool) → MatchBool r (xs ≡ ys) (xs ≢ ys) → r ≡ true
     go true h = refl
     go false h = absurd (h same)
+
+-- and whether these are the bytes of a piece
+pub told_piece : (xs ys zs : List ℕ) (r : Bool) → r ≡ pointwise nat_eq xs ys → xs ≡ zs → MatchBool r (ys ≡ zs) (ys ≢ zs)
+told_piece xs ys zs r e same = go r (told_text xs ys r e)
+  where
+    go : (r : Bool) → MatchBool r (xs ≡ ys) (xs ≢ ys) → MatchBool r (ys ≡ zs) (ys ≢ zs)
+    go true h = sym h ∙ same
+    go false h = λ is. h (same ∙ sym is)

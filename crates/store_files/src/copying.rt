@@ -9,6 +9,7 @@ use crate::image::image_of;
 use crate::new_file::{create, remove_new};
 use crate::source::{Source, StoreFile};
 use disk::{FileDisk, MemDisk};
+use gateway_wire::last_line;
 use lw_types::Refusal;
 use std::alloc::Global;
 use std::fs::File;
@@ -46,7 +47,7 @@ pub fn copy_store<R: Files<File = File>>(
     let store = copied(alloc, &mut source)?;
     let (table, seq) = (store.table().copy()?, store.seq());
     drop(store);
-    let text = copied_text(alloc, table.devices().len(), seq)?;
+    let text = last_line(alloc, table.devices().len(), seq)?;
     let (disk, made) = create(rt, new, table.slots())?;
     match establish_back(alloc, disk, table, seq) {
         Ok(store) => Ok(CopiedStore { store, text }),
@@ -75,12 +76,4 @@ fn store_in(alloc: Global, image: Vec<u8>) -> Result<Store<MemDisk>, Refusal>
 {
     let disk = MemDisk::new(alloc, image)?;
     open(alloc, disk)
-}
-
-// The number of devices, and the number of the last decision.
-#[tactic(auto, unfolding(lw_types::specs::Words::line_of))]
-fn copied_text(alloc: Global, devices: usize, seq: u64) -> Result<String, Refusal>
-    ensures { IfOk result (λ text. string_bytes text ≡ last_line devices seq) }
-{
-    Ok(format!(in alloc; "devices {devices} seq {seq}\n")?)
 }

@@ -1,6 +1,7 @@
 // Why a store's file can't be made, copied or restored.
 use crate::FileCause;
 use lw_types::{Eui, Refusal};
+use std::alloc::AllocError;
 
 /// Why a store's file can't be made, copied or restored.
 #[derive(Drop)]
@@ -29,5 +30,17 @@ impl From<Refusal> for FileFault {
 
     fn from(refusal: Refusal) -> Self {
         FileFault::Refused(refusal)
+    }
+}
+
+impl From<AllocError> for FileFault {
+    ghost use Rattle.std.specs.Prelude.{◌≡◌};
+    ghost use Rattle.lw_types.specs.declared.refusal.Refusal.TheVariants.{OutOfMemory};
+    ghost use Rattle.store_files.specs.declared.fault.FileFault.TheVariants.{Refused};
+
+    ghost from_gives = { λ _ fault. fault ≡ Refused OutOfMemory };
+
+    fn from(_error: AllocError) -> Self {
+        FileFault::Refused(Refusal::OutOfMemory)
     }
 }

@@ -1,6 +1,6 @@
 // What a store's disk holds, while somebody else may write it.
 ghost use Rattle.std.specs.Prelude.{◌≡◌, ◌≤◌, ◌+◌, ℕ, List, length, take, drop, true, IfOk, IfSome};
-ghost use Rattle.std.specs.Prelude.{IsSome, OnOk};
+ghost use Rattle.std.specs.Prelude.{◌≢◌, IsSome, MatchBool, OnOk};
 ghost use Rattle.store_files.specs.Images.{AreFirstOf};
 ghost use Rattle.store_layout.specs.Superblock.{disk_len};
 
@@ -40,16 +40,16 @@ pub fn image_of<S: Source>(alloc: Global, source: &mut S) -> Result<Option<Vec<u
     let area_len = superblock.area_len() as usize;
     let mut image = Vec::from_slice(alloc, &front)?;
     let (first, second) = (Superblock::LEN, Superblock::LEN + area_len);
-    let is_same = read_area(alloc, source, &mut image, second)?
+    let is_whole = read_area(alloc, source, &mut image, second)?
         && read_area(alloc, source, &mut image, second + area_len)?
         && is_same(source, &image, first)?
         && is_same(source, &image, second)?
         && is_same(source, &image, first)?;
-    Ok(if is_same { Some(image) } else { None })
+    Ok(if is_whole { Some(image) } else { None })
 }
 
 // The superblock of a disk that has the length for it, and its bytes.
-fn superblock_of<S: Source>(source: &mut S) -> Result<(Superblock, [u8; 32]), Refusal>
+fn superblock_of<S: Source>(source: &mut S) -> Result<(Superblock, [u8; Superblock::LEN]), Refusal>
     ensures size { IfOk result
         (λ r. length (S.content source.old) ≡ disk_len r.0.slots) }
     ensures front { S.still → IfOk result (λ r. r.1 ≡ take 32 (S.content source.old)) }
@@ -179,6 +179,9 @@ fn is_same<S: Source>(source: &mut S, image: &[u8], start: usize) -> Result<bool
 // Whether an image has these bytes at this place.
 fn has(image: &[u8], at: usize, bytes: &[u8]) -> bool
     requires { at + length bytes.now ≤ length image.now }
+    ensures exact { MatchBool result
+        (bytes.now ≡ take (length bytes.now) (drop at image.now))
+        (bytes.now ≢ take (length bytes.now) (drop at image.now)) }
     ensures there { (content : List ℕ) → AreFirstOf content image.now
         → bytes.now ≡ take (length bytes.now) (drop at content) → result ≡ true }
 {
