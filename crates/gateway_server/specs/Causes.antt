@@ -58,11 +58,11 @@ cause_words fault.NoNames = Some (codes "the server runs without --names")
 cause_words other = None
 
 -- the commands whose faults have such a line: the words of the others are fixed
-abbrev pub names_causes : Mode → Bool
-names_causes (mode.Format file net_id slots) = false
-names_causes (mode.List file) = false
-names_causes (mode.Serve file listen links) = false
-names_causes other = true
+abbrev pub has_cause_line : Mode → Bool
+has_cause_line (mode.Format file net_id slots) = false
+has_cause_line (mode.List file) = false
+has_cause_line (mode.Serve file listen links) = false
+has_cause_line other = true
 
 -- the fault of an address that can't be listened on
 abbrev pub IsListen : Fault → Type 0

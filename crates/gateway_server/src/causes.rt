@@ -1,7 +1,7 @@
 // Why a command failed, in a line after that of its fault.
 ghost use Rattle.std.specs.Prelude.{◌≡◌, option_map};
 ghost use Rattle.gateway_server.specs.Causes.{cause_words, file_words, listen_cause, listen_words};
-ghost use Rattle.gateway_server.specs.Causes.{names_causes, names_words};
+ghost use Rattle.gateway_server.specs.Causes.{has_cause_line, names_words};
 
 use crate::Fault;
 use command_words::Mode;
@@ -60,8 +60,8 @@ pub(crate) fn cause_line(fault: &Fault) -> Option<&'static str>
 
 /// Whether the faults of a command have such a line. The words of `format`, `list` and `serve` are
 /// fixed.
-pub(crate) fn names_causes(mode: &Mode<'_>) -> bool
-    ensures { result ≡ names_causes mode.now }
+pub(crate) fn has_cause_line(mode: &Mode<'_>) -> bool
+    ensures { result ≡ has_cause_line mode.now }
 {
     !matches!(
         mode,

@@ -8,7 +8,7 @@ ghost use Rattle.gateway_server.specs.Lines.{report_text, run_text};
 ghost use Rattle.gateway_server.specs.Told.{AsksToRun, CannotListen, FellShort, HasStatus};
 ghost use Rattle.gateway_server.specs.Told.{HasUsageStatus, IsAskedFor, IsDone, WasObeyed};
 
-use crate::causes::{cause_line, names_causes};
+use crate::causes::{cause_line, has_cause_line};
 use crate::serving::{FinishedLife, run_server, serve};
 use crate::{Commands, Fault};
 use command_words::{Mode, Usage, words};
@@ -119,7 +119,7 @@ fn fail_in<E: Write>(err: &mut E, mode: &Mode<'_>, fault: &Fault) -> u8
     ensures three { result ≡ 3 → AsksToRun mode.now × IsListen fault.now }
 {
     let status = fail(err, fault);
-    if names_causes(mode)
+    if has_cause_line(mode)
         && let Some(cause) = cause_line(fault)
     {
         let _ = writeln!(err, "lnsd: {cause}");

@@ -37,9 +37,9 @@ const PATIENCE: u64 = 2;
 
 // How long one read of an order waits, in milliseconds. An operator who has sent nothing meanwhile
 // is given up if each attendant has an operator, and otherwise after this number of such reads.
-const QUIET: u64 = 100;
+const ORDER_WAIT: u64 = 100;
 
-const QUIET_READS: u32 = 20;
+const MOST_ORDER_WAITS: u32 = 20;
 
 // How long one write to an operator who watches waits for room, in seconds.
 const WATCHER_WAIT: u64 = 1;
@@ -127,18 +127,18 @@ impl<'x, B: Books, R: Wait, G: Gate, C: LifeClock, S: NameSource> Attendant<'x, 
     fn read_order(&self, stream: &UnixStream) -> Option<Order> {
         let mut stream = stream;
         stream
-            .set_read_timeout(Some(Duration::from_millis(QUIET)))
+            .set_read_timeout(Some(Duration::from_millis(ORDER_WAIT)))
             .ok()?;
         let mut line = [0u8; LONGEST_ORDER];
         let mut len: usize = 0;
         let mut quiet: u32 = 0;
-        for _ in 0..QUIET_READS + LONGEST_ORDER as u32 {
+        for _ in 0..MOST_ORDER_WAITS + LONGEST_ORDER as u32 {
             match stream.read(line.get_mut(len..)?) {
                 Ok(0) => return None,
                 Ok(count) => len = len.saturating_add(count),
                 Err(error) if is_passing(error.kind()) => {
                     quiet = quiet.saturating_add(1);
-                    if quiet >= QUIET_READS || self.control.is_crowded() {
+                    if quiet >= MOST_ORDER_WAITS || self.control.is_crowded() {
                         return None;
                     }
                 }

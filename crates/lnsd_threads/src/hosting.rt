@@ -35,7 +35,7 @@ const SHORTEST_WAIT: u64 = 1;
 
 // After how many milliseconds a worker looks again how long its link has to greet, if that may get
 // shorter.
-const LOOK_WAIT: u64 = 20;
+const GREETING_LOOK: u64 = 20;
 
 // The pause after a failed accept, in seconds. An accept fails if the process has no descriptors
 // left, or no memory.
@@ -258,14 +258,14 @@ fn greeting_time(policy: &Policy, crowd: Option<u64>) -> Option<u64>
 
 // A read of a link that hasn't greeted.
 #[derive(Clone, Copy)]
-struct Look {
+struct GreetingRead {
     // How long it waits, in milliseconds, if that is limited.
     wait: Option<u64>,
     // If nothing came meanwhile, the link's time is over.
     is_last: bool,
 }
 
-impl Look {
+impl GreetingRead {
     // The read of a link whose time ends at this moment, if it does. If the time may get shorter
     // meanwhile, the read waits only until that is to be looked at again.
     fn new(policy: &Policy, now: Moment, until: Option<Moment>) -> Self
@@ -277,11 +277,11 @@ impl Look {
     {
         let wait = until.map(|until| wait_until(now, until));
         match (policy.crowded_wait, wait) {
-            (Some(_), Some(wait)) if wait > LOOK_WAIT => Look {
-                wait: Some(LOOK_WAIT),
+            (Some(_), Some(wait)) if wait > GREETING_LOOK => GreetingRead {
+                wait: Some(GREETING_LOOK),
                 is_last: false,
             },
-            _ => Look {
+            _ => GreetingRead {
                 wait,
                 is_last: true,
             },
@@ -337,8 +337,8 @@ impl<'x, B: Books, R: Wait, G: Gate, C: LifeClock> Worker<'x, B, R, G, C> {
     // The next bytes of a link that came at this moment and hasn't greeted; `Late` if its time is
     // over.
     fn next_piece(&self, stream: &TcpStream, since: Moment, buffer: &mut [u8]) -> Incoming {
-        let look = self.look(since);
-        if let Some(wait) = look.wait
+        let read = self.greeting_read(since);
+        if let Some(wait) = read.wait
             && stream
                 .set_read_timeout(Some(Duration::from_millis(wait)))
                 .is_err()
@@ -346,17 +346,17 @@ impl<'x, B: Books, R: Wait, G: Gate, C: LifeClock> Worker<'x, B, R, G, C> {
             return Incoming::Late;
         }
         match read_some(stream, buffer) {
-            Incoming::Late if !look.is_last => Incoming::Nothing,
+            Incoming::Late if !read.is_last => Incoming::Nothing,
             incoming => incoming,
         }
     }
 
     // How long the next read of a link waits that came at this moment and hasn't greeted.
-    fn look(&self, since: Moment) -> Look {
+    fn greeting_read(&self, since: Moment) -> GreetingRead {
         let policy = &self.server.policy;
         let now = self.context.clock.now();
         let time = greeting_time(policy, self.server.signals.crowd());
-        Look::new(policy, now, time.map(|time| moved_on(since, time)))
+        GreetingRead::new(policy, now, time.map(|time| moved_on(since, time)))
     }
 
     // Gives the link its name, and closes the link that had it, if names are taken over. The

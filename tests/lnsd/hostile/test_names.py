@@ -1,6 +1,8 @@
 """A server with a list of the names that may connect (`lnsd run --names`), beside strangers."""
 
+import os
 import time
+from concurrent.futures import ThreadPoolExecutor
 from contextlib import ExitStack
 from pathlib import Path
 
@@ -42,6 +44,8 @@ WRONG = (
     " # remark",
 )
 NO_NAME = "neither 'gateway EUI' nor 'application N'"
+# how often operators reload beside each other, and how many of them
+RELOADS, OPERATORS = 20, 6
 LINES = "\n# all of ours\n\n"
 
 
@@ -219,6 +223,45 @@ def test_lists_that_are_refused(new_server: NewServer, names: Path) -> None:
     due = (1, "", f"lnsd: names places\nlnsd: {cause}\n")
     assert run(server, names, 3, store=gone) == due
     assert server.list() == ["devices 0 seq 0"]
+
+
+def test_files_without_a_list(server: Program, names: Path) -> None:
+    """A pipe that nobody writes to, a folder, and a device without an end: neither `run` nor
+    `reload` waits, and the old list holds."""
+    pipe = names.with_name("pipe")
+    os.mkfifo(pipe)
+    other = "another error of the system"
+    for file, cause in ((pipe, other), (names.parent, "it is a folder"), ("/dev/zero", other)):
+        due = (1, "", f"lnsd: names file\nlnsd: {cause}\n")
+        assert run(server, file, store="no store") == due
+    names.unlink()
+    pipe.rename(names)
+    assert server.run("reload", server.store) == failure("names file")
+    assert server.address
+    with Gateway(server.address, EUI):
+        await_status(server, gateways=1)
+    assert_stopped(server)
+
+
+def test_reloads_beside_each_other(server: Program, names: Path) -> None:
+    """Of lists that several operators have read again at a time, the newest holds."""
+    lists = [f"gateway {EUI}\n", f"gateway {OTHER}\n"]
+    assert server.address
+    for turn in range(RELOADS):
+        with ThreadPoolExecutor(OPERATORS) as pool:
+            reloads = []
+            for listed in (lists[turn % 2], lists[1 - turn % 2]):
+                new = names.with_name("new names")
+                new.write_text(listed, encoding="utf-8")
+                new.rename(names)
+                reload = ("reload", server.store)
+                reloads += [pool.submit(server.run, *reload) for _ in range(OPERATORS // 2)]
+            assert {reload.result() for reload in reloads} == {(0, "", "")}
+        with Gateway(server.address, OTHER if turn % 2 == 0 else EUI) as newest:
+            await_status(server, gateways=1)
+            assert not is_closed(newest, 0)
+        await_status(server, links=0)
+    assert_stopped(server)
 
 
 def test_server_without_a_list(new_server: NewServer) -> None:
