@@ -79,6 +79,7 @@ impl<B: Books> Shared<B> {
         let (taken, all) = taken.open::<Taken<B>>();
         let (head, history) = history.named::<B>();
         let taker = Taker::new(all, history.again());
+        // Only for the proof: by the contract of this call the core is lawful.
         let _ = core.made();
         let shared = Shared {
             core,
@@ -160,6 +161,7 @@ impl<B: Books> Shared<B> {
         ensures left { self.new.left ≡ self.old.left }
     {
         sessions::laws::joining();
+        // Only for the proof: by the contract of this call there are at most 64 outcomes.
         let _ = self.core.outcomes();
         let kind = event.kind();
         let turn = self.core.handle_seen(moment, event, observed);
@@ -246,6 +248,7 @@ impl<B: Books> Shared<B> {
         ensures left { self.new.left ≡ self.old.left }
     {
         self.taken.audit(&mut taker.share);
+        // Only for the proof: by the contract of this call the core is lawful.
         let _ = self.core.made();
         let history = self.history_after(&taker.seen)?;
         let batch = self.core.take(max)?;
