@@ -22,7 +22,6 @@ use Rattle.sessions.specs.declared.heard_step.HeardStep.{HeardStep}
 use Rattle.session_core.specs.State.{DecisionsState, IsLawful, now_of, last_number}
 use Rattle.session_core.specs.Deciding.{Keeps, Makes, has_room, step_if_room}
 use Rattle.session_core.specs.Core.{CoreState, with_outcome}
-use Rattle.session_core.specs.Events.{ClosesOldest, HandsInOldest}
 use Rattle.session_core.specs.Observing.{ClosesOldestSeen, DecidesOldest, IsDecidedFrame, KeepsFrame, KeepsOldest, ObservedState, RefusesOldest, last_slot}
 use Rattle.session_core.specs.declared.observed.ClosedFrame.TheVariants.{Decided, Refused}
 use Rattle.session_core.specs.declared.observed.DecidedFrame.{DecidedFrame}

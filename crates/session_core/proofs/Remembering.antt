@@ -1,5 +1,5 @@
 -- What a turn adds to a history.
-use Rattle.std.proofs.Common.{◌≡◌, ◌≤◌, ◌+◌, ◌∙◌, ℕ, List, ◌++◌, drop, length, sym, ap, arith}
+use Rattle.std.proofs.Common.{◌≡◌, ◌≤◌, ◌+◌, ◌∙◌, ℕ, List, ◌++◌, drop, length, take, sym, ap, arith}
 use Rattle.sessions.specs.declared.decision.Decision.{Decision}
 use Rattle.session_core.specs.Calls.{work_of}
 use Rattle.session_core.specs.Core.{CoreState, IsLawfulCore}
@@ -43,8 +43,11 @@ module _ (event : Event) (old new : CoreState) (turn : Turn) (lawful : IsLawfulC
       let log : drop old.decisions.taken history ≡ old.decisions.log ++ decisions_in (whole.closed ++ whole.asked) =
       ap (λ n. drop n history) (sym taken) ∙ (sym after.rest ∙ whole.handed.log) in
       record {
+        windows = take new.closings old.windows;
         closed = whole.closed;
         asked = whole.asked;
+        frames = whole.frames;
+        in_memory = whole.in_memory;
         own = whole.own_command;
         refused = whole.refused;
         there =

@@ -1,5 +1,5 @@
 -- What observers are given of windows that are closed.
-use Rattle.std.proofs.Common.{◌≡◌, ◌≢◌, ◌∙◌, ◌++◌, ◌&&◌, ℕ, zero, suc, Bool, true, false, List, [], ◌∷◌, Option, Some, Result, Err, ap, if◌then◌else◌, inl, inr, length, nat_lt, refl, subst, sym}
+use Rattle.std.proofs.Common.{◌≡◌, ◌∙◌, ◌++◌, ◌&&◌, ℕ, zero, suc, Bool, true, false, List, [], ◌∷◌, Option, Some, ap, if◌then◌else◌, inl, inr, length, nat_lt, refl, subst, sym}
 use Rattle.std.specs.Bool.{MatchBool}
 use Rattle.lw_types.specs.declared.refusal.Refusal.{Refusal}
 use Rattle.lw_types.specs.declared.refusal.Refusal.TheVariants.{OutOfMemory}
@@ -7,7 +7,7 @@ use Rattle.dedup.specs.declared.TheConstants.{MOST_WINDOWS}
 use Rattle.session_core.specs.Calls.{work_of}
 use Rattle.session_core.specs.Core.{CoreState}
 use Rattle.session_core.specs.Events.{Closes, HasClosed, Starves, core_at_moment, has_due}
-use Rattle.session_core.specs.Observing.{ClosesOldestSeen, ClosesSeen, HasClosedSeen, IsSeenTurn, KeepsFrame, ObservedState, frames_seen, nothing_seen}
+use Rattle.session_core.specs.Observing.{ClosesSeen, HasClosedSeen, IsSeenTurn, KeepsFrame, ObservedState, frames_seen, nothing_seen}
 use Rattle.session_core.specs.declared.event.Event.{Event}
 use Rattle.session_core.specs.declared.observed.ClosedFrame.{ClosedFrame}
 use Rattle.session_core.specs.declared.turn.Turn.{Turn}

@@ -17,7 +17,7 @@ pub trait Books {
     /// The name of the ledger of decisions taken, which has one part.
     ghost taken_name: { ℕ };
 
-    /// The history of the decisions.
+    /// The name of the history of the decisions.
     ghost history: { Book };
 }
 

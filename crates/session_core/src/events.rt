@@ -163,6 +163,7 @@ impl Core {
         ensures outcomes { result.now.items ≡ self.now.outcomes }
         ensures few { length self.now.outcomes ≤ MOST_OUTCOMES }
     {
+        // Only for the proof: by the contract of this call no more are kept than there is room for.
         let _len = self.outcomes.len();
         &self.outcomes
     }

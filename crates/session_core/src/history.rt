@@ -149,10 +149,13 @@ impl<B: Books> History<B> {
         self.count <= other.count
     }
 
-    // Adds a decision. Returns false if the history is longer than what was seen.
+    // Adds a decision. Returns false if the history is longer than what was seen, and then has seen
+    // more of it.
     pub(crate) fn add(&mut self, head: &HistoryHead<B>, decision: &Decision) -> bool
         requires room { length self.old < 2 ^ 62 }
-        ensures { IsTrue result → self.new ≡ self.old ++ decision.now ∷ [] }
+        ensures added { IsTrue result → self.new ≡ self.old ++ decision.now ∷ [] }
+        ensures longer { result ≡ false → IsPrefix self.old self.new
+            × (length self.old < length self.new) }
     {
         let mut offer: Offer<Decision, u64, HistoryRule, NothingGained> = self
             .seen

@@ -39,7 +39,8 @@ pub struct Handled<B: Books> {
 /// made through the seat. Its share grew by exactly what the call made, and the seat's last call is
 /// this one: of this kind, at this moment, with the refusal that is returned. The kind says whose
 /// copy or command was handed in; which copy it was is in no contract. The decisions of the call
-/// stand in the history at the turn's numbers. A call that waits for the lock need not return.
+/// stand in the history at the turn's numbers. First come those of frames of windows, in order, and
+/// then that of the call's own command. A call that waits for the lock need not return.
 pub trait Sessions<B: Books> {
     /// The number of decisions made in this life; for inspection, for example by tests.
     fn made<R: Wait>(&self, rt: &R) -> u64;
@@ -172,6 +173,8 @@ fn handle_in<B: Books>(
 {
     sessions::laws::joining();
     let core = shared.core();
+    // Only for the proof: by the contracts of these calls the core is lawful and has at most 64
+    // outcomes.
     let _ = core.made();
     let _ = core.outcomes();
     let mut observed = shared.observed();

@@ -1,6 +1,6 @@
 // A core that several threads share, with the books of what each thread made and took.
-ghost use Rattle.std.specs.Prelude.{◌≡◌, ◌+◌, ◌≤◌, ◌<◌, ◌^◌, ◌↔◌, length, take, IfSome};
-ghost use Rattle.std.specs.Prelude.{true, IsSome, IsTrue, MatchResult};
+ghost use Rattle.std.specs.Prelude.{◌≡◌, ◌+◌, ◌≤◌, ◌<◌, ◌^◌, ◌↔◌, ◌⊎◌, length, take, IfErr, IfSome};
+ghost use Rattle.std.specs.Prelude.{true, false, IsSome, IsTrue, MatchResult};
 ghost use mathlib.Core.List.{IsPrefix};
 ghost use Rattle.lw_types.specs.declared.refusal.Refusal.TheVariants.{OutOfMemory, OutOfStep};
 ghost use Rattle.devices.specs.declared.command.Command.TheVariants as commands;
@@ -79,6 +79,7 @@ impl<B: Books> Shared<B> {
         let (taken, all) = taken.open::<Taken<B>>();
         let (head, history) = history.named::<B>();
         let taker = Taker::new(all, history.again());
+        // Only for the proof: by the contract of this call the core is lawful.
         let _ = core.made();
         let shared = Shared {
             core,
@@ -160,6 +161,7 @@ impl<B: Books> Shared<B> {
         ensures left { self.new.left ≡ self.old.left }
     {
         sessions::laws::joining();
+        // Only for the proof: by the contract of this call there are at most 64 outcomes.
         let _ = self.core.outcomes();
         let kind = event.kind();
         let turn = self.core.handle_seen(moment, event, observed);
@@ -170,8 +172,9 @@ impl<B: Books> Shared<B> {
 
     /// The history, if it has each decision.
     pub fn history(&self) -> Option<History<B>>
-        ensures { IfSome result (λ history. (history ≡ self.now.history)
+        ensures history { IfSome result (λ history. (history ≡ self.now.history)
             × HasAllDecisions self.now.core.decisions history) }
+        ensures whole { IsSome result ↔ IsTrue self.now.is_whole }
     {
         if self.is_whole {
             Some(self.history.again())
@@ -240,9 +243,12 @@ impl<B: Books> Shared<B> {
             { decisions = after_taking self.old.core.decisions max }))
             (λ _. self.new.core ≡ self.old.core) }
         ensures taken { DrawsNext taker.old max result taker.new }
+        ensures step { IfErr result (λ e. e ≡ OutOfStep → IsTrue self.old.is_whole
+            → ¬ (IsPrefix taker.old.seen self.old.history)) }
         ensures left { self.new.left ≡ self.old.left }
     {
         self.taken.audit(&mut taker.share);
+        // Only for the proof: by the contract of this call the core is lawful.
         let _ = self.core.made();
         let history = self.history_after(&taker.seen)?;
         let batch = self.core.take(max)?;
@@ -256,7 +262,8 @@ impl<B: Books> Shared<B> {
         ensures { MatchResult result
             (λ history. (history ≡ self.now.history)
             × (HasAllDecisions self.now.core.decisions history × IsPrefix seen.now history))
-            (λ e. e ≡ OutOfStep) }
+            (λ e. (e ≡ OutOfStep)
+            × (IsTrue self.now.is_whole → ¬ (IsPrefix seen.now self.now.history))) }
     {
         match self.history() {
             Some(history) if seen.begins(&history) => Ok(history),
@@ -340,7 +347,7 @@ fn gather_shares<B: Books>(
 }
 
 // Adds the decisions of a core that a history lacks, if it was whole before these. Returns whether
-// it is whole now.
+// it is whole now. If it isn't, then it wasn't before, it is too long, or it has grown.
 fn extend<B: Books>(
     head: &HistoryHead<B>,
     history: &mut History<B>,
@@ -348,7 +355,9 @@ fn extend<B: Books>(
     was_whole: bool,
 ) -> bool
     requires { IsTrue was_whole → LacksOnly core.now.decisions history.old }
-    ensures { IsTrue result → HasAllDecisions core.now.decisions history.new }
+    ensures whole { IsTrue result → HasAllDecisions core.now.decisions history.new }
+    ensures lacks { result ≡ false → (was_whole ≡ false)
+        ⊎ ((MOST_MADE ≤ length history.new) ⊎ (length history.old < length history.new)) }
 {
     if !was_whole {
         return false;

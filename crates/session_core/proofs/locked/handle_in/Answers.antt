@@ -17,7 +17,7 @@ returns-clause-added g c =
     let new = c.handle_seen-turn.new.self.core in
     let lawful : IsLawfulCore old = subst IsLawfulCore c.core-core.ensures c.made.ensures.lawful in
     let few : length old.outcomes ≤ MOST_OUTCOMES = subst (λ (s : CoreState). length s.outcomes ≤ MOST_OUTCOMES) c.core-core.ensures c.outcomes.ensures.few in
-    when_some c.history.result c.history.ensures (λ history is.
+    when_some c.history.result c.history.ensures.history (λ history is.
     then_added c.args.event old new c.handle_seen-turn.result lawful
     (event_whole c.joining.ensures.continues c.args.event old new c.args.moment c.handle_seen-turn.result turn lawful few)
     (event-grows c.args.event _ _ _ _ turn).taken history is.1)

@@ -7,7 +7,7 @@ pub loop-place-preserved : goal.loop-place-preserved
 loop-place-preserved g c =
     let (kept, (len, within)) = c.loop-place.invariant in
     let s = c.args.core.now.decisions in
-    let added : c.add.new.self ≡ c.loop-place.history ++ c.waiting.result.now ∷ [] = c.if-not-add.ensures refl in
+    let added : c.add.new.self ≡ c.loop-place.history ++ c.waiting.result.now ∷ [] = c.if-not-add.ensures.added refl in
     let more : length c.add.new.self ≡ length c.loop-place.history + 1 = ap length added ∙ length_push _ _ in
     let there = c.loop-place-test.true in
     let end = c.untaken-place-end.ensures.count in (

@@ -1,4 +1,4 @@
-use Rattle.std.proofs.Common.{◌≡◌, ◌+◌, ◌∙◌, ◌∷◌, ◌++◌, [], List, ℕ, true, Ok, Err, refl, sym, ap, subst}
+use Rattle.std.proofs.Common.{◌≡◌, ◌+◌, ◌∙◌, ◌∷◌, ◌++◌, [], List, true, Err, refl, sym, ap, subst}
 use Rattle.std.proofs.lemmas.Option.{MatchOption-at_some}
 use Rattle.std.specs.Result.{IsErrAnd}
 use Rattle.lw_types.specs.declared.refusal.Refusal.TheVariants.{OutOfMemory}
@@ -8,7 +8,7 @@ use Rattle.dedup.specs.Windows.{IsOldestDue, NoneDue, heard_now}
 use Rattle.sessions.specs.HeardStep.{Becomes, heard_decision}
 use Rattle.sessions.specs.declared.decision.Decision.{Decision}
 use Rattle.sessions.specs.Decision.{without_decisions}
-use Rattle.session_core.specs.State.{DecisionsState, IsLawful, last_number, now_of}
+use Rattle.session_core.specs.State.{DecisionsState, last_number, now_of}
 use Rattle.session_core.specs.Deciding.{Makes, has_room}
 use Rattle.session_core.specs.Kept.{kept_state}
 use Rattle.session_core.specs.Observing.{DecidesOldest}
