@@ -2,7 +2,7 @@
 ghost use Rattle.std.specs.Prelude.{◌≡◌, ℕ, length, IfErr, IfOk, IfSome, MatchResult, Some};
 ghost use Rattle.std.specs.Prelude.{slice_get};
 ghost use Rattle.lw_types.specs.declared.refusal.Refusal.TheVariants.{OutOfMemory};
-ghost use Rattle.lnsd_operator.specs.Faults.{IsOfBeginning};
+ghost use Rattle.lnsd_operator.specs.Faults.{IsOfLinks};
 
 use crate::names::{HeldName, LeftName};
 use crate::writing::Spare;
@@ -208,7 +208,7 @@ pub fn accept(
     listener: TcpListener,
     count: LinkCount,
 ) -> Result<Vec<Mutex<Option<TcpStream>>>, ServeFault>
-    ensures { MatchResult result (λ streams. length streams.items ≡ count) IsOfBeginning }
+    ensures { MatchResult result (λ streams. length streams.items ≡ count) IsOfLinks }
 {
     let mut streams = Vec::new(alloc);
     for _number in 0..count.get() {
@@ -222,7 +222,7 @@ pub fn accept(
 
 // A connection that is gone before it is accepted counts as a failed accept, which is tried again.
 fn accept_one(listener: &TcpListener) -> Result<TcpStream, ServeFault>
-    ensures { IfErr result IsOfBeginning }
+    ensures { IfErr result IsOfLinks }
 {
     for _ in 0..ATTEMPTS {
         if let Ok((stream, _)) = listener.accept() {
