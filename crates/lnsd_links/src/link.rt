@@ -49,14 +49,14 @@ pub struct Link {
     pub spare: Mutex<Option<Spare>>,
     // The current link has ended: nothing more comes for it.
     over: AtomicBool,
-    // The current link lost its name to a later link, and was closed.
+    // The current link lost its name, to a later link or since the name isn't listed any more, and
+    // was closed.
     taken: AtomicBool,
     // One more than the moment of the last copy on the current link; 0 before the first.
     last_copy: AtomicU64,
 }
 
-/// Shows that the link in a place was closed, since its name went over to another one. Only
-/// [`Link::take`] makes it.
+/// Shows that the link in a place was closed, since it lost its name. Only [`Link::take`] makes it.
 #[derive(Clone, Copy)]
 pub struct ClosedLink {
     place: usize,
@@ -130,7 +130,7 @@ impl Link {
         }
     }
 
-    /// Closes the current link, whose name goes over to another one.
+    /// Closes the current link, which loses its name.
     pub(crate) fn take<R: Wait>(&self, rt: &R) -> ClosedLink
         ensures { result.place ≡ self.now.place }
     {

@@ -76,14 +76,14 @@ pub struct Directory {
     ghost room: { 64 ≤ vec_capacity gateways },
 }
 
-// Closes the link that had a name, if there was one.
-fn close_older<R: Wait>(rt: &R, links: &[Link], was: Option<usize>) -> Option<ClosedLink>
-    ensures closed { (older : ℕ) (closed : Link) → was ≡ Some older
-        → slice_get links.now older ≡ Some closed
+// Closes the link of a name, if it has one.
+fn close_link_of<R: Wait>(rt: &R, links: &[Link], number: Option<usize>) -> Option<ClosedLink>
+    ensures closed { (place : ℕ) (closed : Link) → number ≡ Some place
+        → slice_get links.now place ≡ Some closed
         → IsSomeAnd result (λ shown. shown.place ≡ closed.place) }
-    ensures alone { was ≡ None → result ≡ None }
+    ensures alone { number ≡ None → result ≡ None }
 {
-    let link = links.get(was?)?;
+    let link = links.get(number?)?;
     Some(link.take(rt))
 }
 
@@ -96,7 +96,7 @@ fn close_unlisted<R: Wait>(
     link: Option<usize>,
 ) {
     if !list.has(&name) {
-        close_older(rt, links, link);
+        let _ = close_link_of(rt, links, link);
     }
 }
 
@@ -218,7 +218,7 @@ impl Directory {
             (λ taken. link_of self.old name.now ≡ None → taken.1 ≡ None) }
     {
         let (held, was) = self.give(name, link)?;
-        Ok((held, close_older(rt, links, was)))
+        Ok((held, close_link_of(rt, links, was)))
     }
 
     // Gives a link a name, and returns the link that had it until now.
