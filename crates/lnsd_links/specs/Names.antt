@@ -17,7 +17,7 @@ abbrev pub has_name : NameList → Recipient → Bool
 has_name list (Gateway gateway) = list_any (is_same_eui gateway) list.gateways.items
 has_name list (Application application) = slice_index_or list.applications application false
 
--- a list has one more name, if it didn't have it before
+-- a list has this name, and the names that it had
 abbrev pub HasAlso : NameList → Recipient → NameList → Type 0
 HasAlso old name new = (other : Recipient)
     → has_name new other ≡ (has_name old other || is_same_name name other)

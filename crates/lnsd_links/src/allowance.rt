@@ -3,7 +3,7 @@ use lw_types::Ranged;
 use session_core::{LAST_MOMENT, Moment};
 
 /// How fast the copies that come on a link are taken.
-#[derive(Clone, Copy)]
+#[derive(Clone, Copy, Debug)]
 pub enum CopyRate {
     /// As fast as they come.
     Unlimited,
@@ -15,7 +15,7 @@ pub enum CopyRate {
 pub type CopyCount = Ranged<1, 1_000_000>;
 
 /// The copies that may come on a link now. Copies are paid for before they are handed in.
-#[derive(Clone, Copy)]
+#[derive(Clone, Copy, Debug)]
 pub struct Allowance {
     per_second: CopyCount,
     burst: CopyCount,

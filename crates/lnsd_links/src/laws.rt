@@ -22,8 +22,8 @@ pub fn limits_are_these()
 {}
 
 /// On a limited link no more copies come than the burst and what is earned in the time from the
-/// first payment to the last one, however they are paid for. If nothing was left at the beginning,
-/// no more come than what is earned.
+/// allowance's own moment to that of the last payment, however they are paid for. If nothing was
+/// left at the beginning, no more come than what is earned.
 pub fn copies_keep_to_their_rate()
     ensures earned { (payments : List (ℕ × ℕ)) (old : Allowance) (new : Allowance)
         → ArePaid payments old new

@@ -2,7 +2,7 @@
 ghost use Rattle.std.specs.Prelude.{◌≡◌, ℕ, length, IfErr, IfOk, IfSome, MatchResult, Some};
 ghost use Rattle.std.specs.Prelude.{slice_get};
 ghost use Rattle.lw_types.specs.declared.refusal.Refusal.TheVariants.{OutOfMemory};
-ghost use Rattle.lnsd_operator.specs.Faults.{IsOfBeginning};
+ghost use Rattle.lnsd_operator.specs.Faults.{IsOfLinks};
 
 use crate::names::{HeldName, LeftName};
 use crate::writing::Spare;
@@ -49,14 +49,14 @@ pub struct Link {
     pub spare: Mutex<Option<Spare>>,
     // The current link has ended: nothing more comes for it.
     over: AtomicBool,
-    // The current link lost its name to a later link, and was closed.
+    // The current link lost its name, to a later link or since the name isn't listed any more, and
+    // was closed.
     taken: AtomicBool,
     // One more than the moment of the last copy on the current link; 0 before the first.
     last_copy: AtomicU64,
 }
 
-/// Shows that the link in a place was closed, since its name went over to another one. Only
-/// [`Link::take`] makes it.
+/// Shows that the link in a place was closed, since it lost its name. Only [`Link::take`] makes it.
 #[derive(Clone, Copy)]
 pub struct ClosedLink {
     place: usize,
@@ -130,7 +130,7 @@ impl Link {
         }
     }
 
-    /// Closes the current link, whose name goes over to another one.
+    /// Closes the current link, which loses its name.
     pub(crate) fn take<R: Wait>(&self, rt: &R) -> ClosedLink
         ensures { result.place ≡ self.now.place }
     {
@@ -208,7 +208,7 @@ pub fn accept(
     listener: TcpListener,
     count: LinkCount,
 ) -> Result<Vec<Mutex<Option<TcpStream>>>, ServeFault>
-    ensures { MatchResult result (λ streams. length streams.items ≡ count) IsOfBeginning }
+    ensures { MatchResult result (λ streams. length streams.items ≡ count) IsOfLinks }
 {
     let mut streams = Vec::new(alloc);
     for _number in 0..count.get() {
@@ -222,7 +222,7 @@ pub fn accept(
 
 // A connection that is gone before it is accepted counts as a failed accept, which is tried again.
 fn accept_one(listener: &TcpListener) -> Result<TcpStream, ServeFault>
-    ensures { IfErr result IsOfBeginning }
+    ensures { IfErr result IsOfLinks }
 {
     for _ in 0..ATTEMPTS {
         if let Ok((stream, _)) = listener.accept() {

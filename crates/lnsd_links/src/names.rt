@@ -76,14 +76,14 @@ pub struct Directory {
     ghost room: { 64 ≤ vec_capacity gateways },
 }
 
-// Closes the link that had a name, if there was one.
-fn close_older<R: Wait>(rt: &R, links: &[Link], was: Option<usize>) -> Option<ClosedLink>
-    ensures closed { (older : ℕ) (closed : Link) → was ≡ Some older
-        → slice_get links.now older ≡ Some closed
+// Closes the link of a name, if it has one.
+fn close_link_of<R: Wait>(rt: &R, links: &[Link], number: Option<usize>) -> Option<ClosedLink>
+    ensures closed { (place : ℕ) (closed : Link) → number ≡ Some place
+        → slice_get links.now place ≡ Some closed
         → IsSomeAnd result (λ shown. shown.place ≡ closed.place) }
-    ensures alone { was ≡ None → result ≡ None }
+    ensures alone { number ≡ None → result ≡ None }
 {
-    let link = links.get(was?)?;
+    let link = links.get(number?)?;
     Some(link.take(rt))
 }
 
@@ -96,7 +96,7 @@ fn close_unlisted<R: Wait>(
     link: Option<usize>,
 ) {
     if !list.has(&name) {
-        close_older(rt, links, link);
+        let _ = close_link_of(rt, links, link);
     }
 }
 
@@ -120,7 +120,7 @@ impl Directory {
     ghost use Rattle.lnsd_links.specs.Linked.{has_link_or_room, is_listed};
     ghost use Rattle.lnsd_links.specs.Linked.{may_greet, may_take_over};
     ghost use Rattle.lnsd_links.specs.Linked.{IsHeld, IsLinked, IsUnlinked};
-    ghost use Rattle.lnsd_links.specs.declared.names.Ungranted.TheVariants.{Full, Unlisted};
+    ghost use Rattle.lnsd_links.specs.declared.names.Ungranted.TheVariants.{Full, Taken, Unlisted};
 
     /// A directory without links. If `first_ring` is given, applications have rings of their own,
     /// from that one on. If `listed` is given, only its names may greet. All the memory that it
@@ -183,6 +183,8 @@ impl Directory {
         ensures named { MatchResult result (λ _. IsLinked self.old name.now link self.new)
             (λ _. self.new ≡ self.old) }
         ensures unlisted { (result ≡ Err Unlisted) ↔ (is_listed self.old name.now ≡ false) }
+        ensures taken { (result ≡ Err Taken)
+            ↔ (IsTrue (is_listed self.old name.now) × IsSome (link_of self.old name.now)) }
     {
         if self.is_listed(name) && self.link_of(name).is_some() {
             return Err(Ungranted::Taken);
@@ -205,6 +207,7 @@ impl Directory {
     ) -> Result<(HeldName, Option<ClosedLink>), Ungranted>
         ensures unlisted { (result ≡ Err Unlisted) ↔ (is_listed self.old name.now ≡ false) }
         ensures granted { IsOk result ↔ IsTrue (may_take_over self.old name.now) }
+        ensures full { IfErr result (λ why. why ≢ Unlisted → why ≡ Full) }
         ensures held { IfOk result (λ taken. IsHeld name.now link taken.0) }
         ensures named { MatchResult result (λ _. IsLinked self.old name.now link self.new)
             (λ _. self.new ≡ self.old) }
@@ -215,7 +218,7 @@ impl Directory {
             (λ taken. link_of self.old name.now ≡ None → taken.1 ≡ None) }
     {
         let (held, was) = self.give(name, link)?;
-        Ok((held, close_older(rt, links, was)))
+        Ok((held, close_link_of(rt, links, was)))
     }
 
     // Gives a link a name, and returns the link that had it until now.
@@ -226,6 +229,7 @@ impl Directory {
     ) -> Result<(HeldName, Option<usize>), Ungranted>
         ensures unlisted { (result ≡ Err Unlisted) ↔ (is_listed self.old name.now ≡ false) }
         ensures granted { IsOk result ↔ IsTrue (may_take_over self.old name.now) }
+        ensures full { IfErr result (λ why. why ≢ Unlisted → why ≡ Full) }
         ensures held { IfOk result (λ taken. IsHeld name.now link taken.0) }
         ensures named { MatchResult result
             (λ taken. (taken.1 ≡ link_of self.old name.now)

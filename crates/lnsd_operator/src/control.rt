@@ -1,7 +1,7 @@
 // The control socket, over which operators talk to a life; it is beside the store's file.
 ghost use Rattle.std.specs.Prelude.{◌≡◌, IfErr};
 ghost use Rattle.lw_types.specs.declared.refusal.Refusal.TheVariants.{OutOfMemory};
-ghost use Rattle.lnsd_operator.specs.Faults.{IsOfBeginning};
+ghost use Rattle.lnsd_operator.specs.Faults.{IsOfLinks};
 
 use crate::LastUplinks;
 use crate::fault::ServeFault;
@@ -43,7 +43,7 @@ pub struct ControlSocket {
 impl ControlSocket {
     /// The control socket of a life whose store has this number of slots.
     pub fn new(alloc: Global, listener: UnixListener, slots: Slots) -> Result<Self, ServeFault>
-        ensures { IfErr result IsOfBeginning }
+        ensures { IfErr result IsOfLinks }
     {
         let Ok(latch) = latch_of(&listener) else {
             return Err(ServeFault::Listen);

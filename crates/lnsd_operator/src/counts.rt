@@ -50,7 +50,7 @@ pub struct Counts {
     pub taken_over: Count,
     /// Links that didn't greet in time.
     pub silent: Count,
-    /// Links whose names aren't listed.
+    /// Links that greeted with a name that isn't listed.
     pub unlisted: Count,
     /// How often a worker waited before it handed in copies.
     pub slowed: Count,
