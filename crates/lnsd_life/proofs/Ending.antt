@@ -4,7 +4,7 @@ use Rattle.devices.specs.declared.effect.Effect.{Effect}
 use Rattle.disk.specs.declared.disk.Disk.{Ghosts}
 use Rattle.lw_types.specs.declared.refusal.Refusal.{Refusal}
 use Rattle.lw_types.specs.declared.refusal.Refusal.TheVariants.{Damaged, DeviceFailed, Failed, OutOfMemory, OutOfStep}
-use Rattle.lnsd_operator.specs.Faults.{IsOfBeginning}
+use Rattle.lnsd_operator.specs.Faults.{IsOfBeginning, IsOfLinks}
 use Rattle.lnsd_operator.specs.declared.fault.ServeFault.{ServeFault}
 use Rattle.lnsd_operator.specs.declared.fault.ServeFault.TheVariants.{Listen, Names, Refused}
 use Rattle.sessions.specs.declared.decision.Decision.{Decision}
@@ -16,7 +16,7 @@ use Rattle.flusher.specs.Chain.{FeedGives, GivesAll, HasBroken, HasEnded, IsChai
 use Rattle.flusher.specs.Chain.HasBroken.{WasUnready, HadNoRoom, FeedRefused, WasUncommitted}
 use Rattle.flusher.specs.Serving.{MakeChains, answers_of}
 use Rattle.flusher.proofs.Calling.{calls_then, none_then, none_yet}
-use Rattle.lnsd_life.specs.Served.{IsFaultOf, IsRefused, IsUntold}
+use Rattle.lnsd_life.specs.Served.{IsFaultOf, IsNotOfNames, IsRefused, IsUntold}
 use Rattle.lnsd_life.specs.declared.report.LifeReport.{LifeReport}
 
 module _ {D F C V : Type 0} (disk : Ghosts D) (gives : FeedGives F) (effects : V → List Effect) (call : C → V → C → Type 0) (most : ℕ) where
@@ -179,6 +179,24 @@ told_committed (Ok taken) (Ok report) before after refused told committed = omeg
 told_committed (Ok taken) (Err fault) before after refused told committed = tt
 told_committed (Err e) report before after refused told committed =
     subst (λ r. IfOk r (λ (of : LifeReport). after ≡ before + of.made)) (sym refused) tt
+
+-- why there is no report of a life without a list of names
+pub unlisted : (ended : Result ℕ Refusal) (report : Result LifeReport ServeFault)
+    → IfErr ended (λ refusal. report ≡ Err (Refused refusal)) → IfOk ended (λ taken. MatchResult report (λ r. r.made ≡ taken) IsUntold)
+    → IfErr report IsNotOfNames
+unlisted (Ok taken) (Ok report) refused told = tt
+unlisted (Ok taken) (Err fault) refused (inl is) = subst IsNotOfNames (sym is) tt
+unlisted (Ok taken) (Err fault) refused (inr is) = subst IsNotOfNames (sym is) tt
+unlisted (Err e) report refused told = subst (λ r. IfErr r IsNotOfNames) (sym refused) tt
+
+-- why links couldn't come in
+pub of_links : (fault : ServeFault) → IsOfLinks fault → IsOfBeginning fault
+of_links Listen is = tt
+of_links (Refused refusal) is = is
+
+pub links_unlisted : (fault : ServeFault) → IsOfLinks fault → IsNotOfNames fault
+links_unlisted Listen is = tt
+links_unlisted (Refused refusal) is = tt
 
 module _ {D : Type 0} (disk : Ghosts D) where
   untold : (old new : Store D disk) (fault : ServeFault) → NoneFailed disk.failures disk.outlook old new → IsUntold fault → IsFaultOf disk old new fault

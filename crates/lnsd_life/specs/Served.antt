@@ -1,6 +1,6 @@
 -- How serving changes a store.
 use Rattle.std.specs.Prelude.{◌≡◌, ◌≤◌, ◌⊎◌, ◌+◌, ℕ, true, List, drop, length, sum, Result, IfErr}
-use Rattle.std.specs.Prelude.{IfOk, OnOk}
+use Rattle.std.specs.Prelude.{IfOk, OnOk, ⊤}
 use mathlib.Core.List.{IsPrefix}
 use Rattle.disk.specs.declared.disk.Disk.{Ghosts}
 use Rattle.lw_types.specs.declared.refusal.Refusal.{Refusal}
@@ -48,6 +48,12 @@ abbrev pub IsFaultOf : {D : Type 0} (disk : Ghosts D) → Store D disk → Store
 IsFaultOf disk old new Listen = new ≡ old
 IsFaultOf disk old new (Names fault) = new ≡ old
 IsFaultOf disk old new (Refused refusal) = IsRefused disk old new refusal
+
+-- it isn't a fault of a list of names
+abbrev pub IsNotOfNames : ServeFault → Type 0
+IsNotOfNames Listen = ⊤
+IsNotOfNames (Names fault) = ⊥
+IsNotOfNames (Refused refusal) = ⊤
 
 -- why a life that ended well gives no report: memory ran out, or the number decided isn't the
 -- number taken

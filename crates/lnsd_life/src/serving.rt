@@ -9,7 +9,7 @@ ghost use Rattle.lnsd_links.specs.declared.link.Link.{Link};
 ghost use Rattle.lw_types.specs.declared.refusal.Refusal.TheVariants.{OutOfMemory, OutOfStep};
 ghost use Rattle.lnsd_operator.specs.declared.fault.ServeFault.TheVariants.{Refused};
 ghost use Rattle.lnsd_operator.specs.Faults.{IsOfBeginning};
-ghost use Rattle.lnsd_life.specs.Served.{IsServed, IsUntold};
+ghost use Rattle.lnsd_life.specs.Served.{IsNotOfNames, IsServed, IsUntold};
 ghost use Rattle.session_core.specs.Core.{new_core};
 ghost use Rattle.store.specs.State.{store_state};
 
@@ -81,6 +81,7 @@ pub fn serve_links<
     clock: &'x C,
 ) -> ServedLife<D>
     ensures served { IsServed D.Disk store result.result result.store }
+    ensures unlisted { IfErr result.result IsNotOfNames }
     ensures workers { IfOk result.result
         (λ report. length report.shares.items ≡ links + 1) }
 {
@@ -316,6 +317,7 @@ fn begin<
     on_begun: &mut N,
 ) -> ServedLife<D>
     ensures served { IsServed D.Disk store result.result result.store }
+    ensures unlisted { IfErr result.result IsNotOfNames }
     ensures workers { IfOk result.result
         (λ report. length report.shares.items ≡ beginning.places + 1) }
 {
@@ -340,7 +342,7 @@ fn begin<
 fn failed<D: Disk>(alloc: Global, store: Store<D>, fault: ServeFault) -> ServedLife<D>
     requires { IsOfBeginning fault }
     ensures served { IsServed D.Disk store result.result result.store }
-    ensures fault { IsErr result.result }
+    ensures fault { result.result ≡ Err fault }
 {
     ServedLife {
         store,
@@ -385,6 +387,7 @@ fn serve_life<
     requires core { core
         ≡ new_core (store_state D.state store).table (store_state D.state store).seq }
     ensures served { IsServed D.Disk store result.result result.store }
+    ensures unlisted { IfErr result.result IsNotOfNames }
     ensures workers { IfOk result.result
         (λ report. length report.shares.items ≡ length places.links.items + 1) }
 {

@@ -1,7 +1,7 @@
 use Rattle.std.proofs.Common.{◌≡◌, ◌+◌, ℕ, IfErr, IfOk, OnOk, arith, length, sym, subst}
 use Rattle.flusher.specs.Calls.{NoneFailed}
 use Rattle.store.specs.State.{store_state}
-use Rattle.lnsd_life.proofs.Ending.{ended_well, told_committed, told_refused}
+use Rattle.lnsd_life.proofs.Ending.{ended_well, told_committed, told_refused, unlisted}
 use Rattle.session_core.specs.Taking.{TakerState}
 use Rattle.lnsd_life.proofs.Decided.{told_history}
 use Rattle.lnsd_life.specs.Served.{CommitsInOrder, IsLedOn, IsRefused}
@@ -40,3 +40,7 @@ pub returns-clause-workers : goal.returns-clause-workers
 returns-clause-workers g c =
     let all : c.len.result + 1 ≡ length c.args.places.links.items + 1 = omega (arith, c.len.ensures, c.args.places.links.ok.0) in
     subst (λ (n : ℕ). IfOk c.served_life.result.result (λ (report : LifeReport). length report.shares.items ≡ n)) all c.served_life.ensures.workers
+
+pub returns-clause-unlisted : goal.returns-clause-unlisted
+returns-clause-unlisted g c =
+    unlisted c.run-end.result.result c.served_life.result.result c.served_life.ensures.refused c.served_life.ensures.told
