@@ -71,9 +71,8 @@ impl<B: Books> LiveServer<B> {
     ) -> Result<(), NameListFault> {
         let _reloading = self.reloading.lock(rt);
         let list = read_names(source, self.links.len())?;
-        self.directory
-            .lock(rt)
-            .relist(rt, self.links.as_slice(), list);
+        let links = self.links.as_slice();
+        self.directory.lock(rt).relist(rt, links, list);
         Ok(())
     }
 
