@@ -1,5 +1,5 @@
 // A core that several threads share, behind a lock.
-ghost use Rattle.std.specs.Prelude.{◌≡◌, IfErr, IfSome};
+ghost use Rattle.std.specs.Prelude.{◌≡◌, ◌↔◌, IfErr, IfSome, IsSome, IsTrue};
 ghost use Rattle.lw_types.specs.declared.refusal.Refusal.TheVariants.{OutOfMemory};
 ghost use Rattle.session_core.specs.Calls.{call_kind_of};
 ghost use Rattle.session_core.specs.History.{HasAdded};
@@ -167,6 +167,7 @@ fn handle_in<B: Books>(
 ) -> Handled<B>
     ensures share { HasMade seat.old seat.new moment (call_kind_of event) result.turn }
     ensures added { IfSome result.history (HasAdded event result.turn) }
+    ensures whole { IsSome result.history ↔ IsTrue shared.new.is_whole }
     ensures seen { IsSeenTurn shared.old.core moment event result.turn shared.new.core
         (nothing_seen shared.old.is_observed)
         (frames_seen shared.old.is_observed result.closed.items result.lacks_frames) }

@@ -1,6 +1,6 @@
 // A core that several threads share, with the books of what each thread made and took.
-ghost use Rattle.std.specs.Prelude.{◌≡◌, ◌+◌, ◌≤◌, ◌<◌, ◌^◌, ◌↔◌, ◌⊎◌, length, take, IfErr, IfSome};
-ghost use Rattle.std.specs.Prelude.{true, false, IsSome, IsTrue, MatchResult};
+ghost use Rattle.std.specs.Prelude.{◌≡◌, ◌+◌, ◌≤◌, ◌<◌, ◌^◌, ◌↔◌, ◌⊎◌, [], length, take, IfErr};
+ghost use Rattle.std.specs.Prelude.{IfSome, true, false, IsSome, IsTrue, MatchResult};
 ghost use mathlib.Core.List.{IsPrefix};
 ghost use Rattle.lw_types.specs.declared.refusal.Refusal.TheVariants.{OutOfMemory, OutOfStep};
 ghost use Rattle.devices.specs.declared.command.Command.TheVariants as commands;
@@ -74,6 +74,7 @@ impl<B: Books> Shared<B> {
         ensures core { result.0.core ≡ core }
         ensures left { result.0.left ≡ seats }
         ensures taker { result.1 ≡ new_taker }
+        ensures history { (result.0.is_whole ≡ true) × (result.0.history ≡ []) }
     {
         let (made, spare) = made.open::<Made<B>>();
         let (taken, all) = taken.open::<Taken<B>>();
@@ -101,6 +102,8 @@ impl<B: Books> Shared<B> {
         ensures seat { result ≡ new_seat }
         ensures core { self.new.core ≡ self.old.core }
         ensures left { self.new.left + 1 ≡ self.old.left }
+        ensures history { (self.new.is_whole ≡ self.old.is_whole)
+            × (self.new.history ≡ self.old.history) }
     {
         let share = self.spare.split_off(1, 0);
         self.left -= 1;
@@ -126,6 +129,8 @@ impl<B: Books> Shared<B> {
         ensures observed { self.new.is_observed ≡ true }
         ensures core { self.new.core ≡ self.old.core }
         ensures left { self.new.left ≡ self.old.left }
+        ensures history { (self.new.is_whole ≡ self.old.is_whole)
+            × (self.new.history ≡ self.old.history) }
     {
         self.is_observed = true;
     }
@@ -135,6 +140,9 @@ impl<B: Books> Shared<B> {
         ensures turn { IsTurn self.old.core moment (work_of event) result self.new.core }
         ensures share { HasMade seat.old seat.new moment (call_kind_of event) result }
         ensures left { self.new.left ≡ self.old.left }
+        ensures lacks { self.new.is_whole ≡ false → (self.old.is_whole ≡ false)
+            ⊎ ((MOST_MADE ≤ length self.new.history)
+            ⊎ (length self.old.history < length self.new.history)) }
     {
         let mut observed = self.core.observed(false);
         self.handle_seen(seat, moment, event, &mut observed)
@@ -159,6 +167,9 @@ impl<B: Books> Shared<B> {
             observed.old observed.new }
         ensures share { HasMade seat.old seat.new moment (call_kind_of event) result }
         ensures left { self.new.left ≡ self.old.left }
+        ensures lacks { self.new.is_whole ≡ false → (self.old.is_whole ≡ false)
+            ⊎ ((MOST_MADE ≤ length self.new.history)
+            ⊎ (length self.old.history < length self.new.history)) }
     {
         sessions::laws::joining();
         // Only for the proof: by the contract of this call there are at most 64 outcomes.
@@ -246,6 +257,8 @@ impl<B: Books> Shared<B> {
         ensures step { IfErr result (λ e. e ≡ OutOfStep → IsTrue self.old.is_whole
             → ¬ (IsPrefix taker.old.seen self.old.history)) }
         ensures left { self.new.left ≡ self.old.left }
+        ensures history { (self.new.is_whole ≡ self.old.is_whole)
+            × (self.new.history ≡ self.old.history) }
     {
         self.taken.audit(&mut taker.share);
         // Only for the proof: by the contract of this call the core is lawful.
