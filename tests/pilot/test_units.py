@@ -142,6 +142,9 @@ def test_names_are_read_again(program: str, folder: Path) -> None:
             await_that("the gateway is listed", lambda: server.status()["gateways"] == "1")
         assert server.status()["unlisted"] == "0"
         assert server.stop()[0] == 0
+    listed.unlink()
+    run(copied)
+    assert not os.listdir(copies), "the copy of a list that is gone"
 
 
 def test_door_reads_its_files_again(doors: Doors) -> None:

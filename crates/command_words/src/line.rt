@@ -55,7 +55,7 @@ const RUN_EXAMPLE: &str = "\
 The file of names has a line 'gateway EUI' or 'application N' for each name. `lnsd reload` has the \
 server read it again. Without --names, each name may connect.
 
-Example: for whoever connects on this machine
+Example: for any client on this machine
   lnsd run store --listen 127.0.0.1:5600";
 
 const RESTORE_EXAMPLE: &str = "\
