@@ -4,7 +4,7 @@ use Rattle.devices.specs.declared.effect.Effect.{Effect}
 use Rattle.disk.specs.declared.disk.Disk.{Ghosts}
 use Rattle.lw_types.specs.declared.refusal.Refusal.{Refusal}
 use Rattle.lw_types.specs.declared.refusal.Refusal.TheVariants.{Damaged, DeviceFailed, Failed, OutOfMemory, OutOfStep}
-use Rattle.lnsd_operator.specs.Faults.{IsOfBeginning, IsOfLinks}
+use Rattle.lnsd_operator.specs.Faults.{IsOfBeginning}
 use Rattle.lnsd_operator.specs.declared.fault.ServeFault.{ServeFault}
 use Rattle.lnsd_operator.specs.declared.fault.ServeFault.TheVariants.{Listen, Names, Refused}
 use Rattle.sessions.specs.declared.decision.Decision.{Decision}
@@ -188,15 +188,6 @@ unlisted (Ok taken) (Ok report) refused told = tt
 unlisted (Ok taken) (Err fault) refused (inl is) = subst IsNotOfNames (sym is) tt
 unlisted (Ok taken) (Err fault) refused (inr is) = subst IsNotOfNames (sym is) tt
 unlisted (Err e) report refused told = subst (λ r. IfErr r IsNotOfNames) (sym refused) tt
-
--- why links couldn't come in
-pub of_links : (fault : ServeFault) → IsOfLinks fault → IsOfBeginning fault
-of_links Listen is = tt
-of_links (Refused refusal) is = is
-
-pub links_unlisted : (fault : ServeFault) → IsOfLinks fault → IsNotOfNames fault
-links_unlisted Listen is = tt
-links_unlisted (Refused refusal) is = tt
 
 module _ {D : Type 0} (disk : Ghosts D) where
   untold : (old new : Store D disk) (fault : ServeFault) → NoneFailed disk.failures disk.outlook old new → IsUntold fault → IsFaultOf disk old new fault
