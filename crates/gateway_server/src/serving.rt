@@ -75,7 +75,7 @@ fn finished<'a>(
     mode: Mode<'a>,
     end: Result<LifeReport, ServeFault>,
 ) -> Result<FinishedLife<'a>, Fault>
-    ensures { IfOk result (λ life. life.mode ≡ mode) }
+    ensures { IfOk result (λ life. life.mode ≡ mode.entry) }
 {
     match end {
         Ok(report) => Ok(FinishedLife { mode, report }),
