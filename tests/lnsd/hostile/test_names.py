@@ -231,7 +231,8 @@ def test_files_without_a_list(server: Program, names: Path) -> None:
     pipe = names.with_name("pipe")
     os.mkfifo(pipe)
     other = "another error of the system"
-    for file, cause in ((pipe, other), (names.parent, "it is a folder"), ("/dev/zero", other)):
+    causes = {pipe: other, names.parent: "it is a folder", Path("/dev/zero"): other}
+    for file, cause in causes.items():
         due = (1, "", f"lnsd: names file\nlnsd: {cause}\n")
         assert run(server, file, store="no store") == due
     names.unlink()
