@@ -36,7 +36,7 @@ IsSoundCondition state Crashing there fit = ⊥
 abbrev pub IsSoundWorld : {D : Type 0} {g : _} → (D → State) → World D g → Type 0
 IsSoundWorld state world =
     IsSoundCondition state world.condition (length world.released.items)
-        (vec_capacity world.released)
+    (vec_capacity world.released)
 
 -- not within a crash
 abbrev pub IsSomewhere : {D : Type 0} {g : _} → Condition D g → Type 0
