@@ -62,9 +62,10 @@ use store::Store;
 ///
 /// The contract says only this: the shares sum to the number of decisions made. If there is a
 /// report, the store's number grew by this number, no call of the disk failed, and the report has
-/// a share of each link and one of the closer. If there is none, it says why. The store was led on
-/// from where it was, by a beginning of some list of decisions, and by all of it if there is a
-/// report. The calls that it makes have proofs of their own; the rest is shown by tests on sockets.
+/// a share of each link and one of the closer. If there is none, it says why. The store goes on
+/// from where it was. What was committed is the beginning of a list of decisions, or the whole list
+/// if there is a report. The calls that it makes have proofs of their own; the rest is shown by
+/// tests on sockets.
 pub fn serve_links<
     'x,
     R: Threads + Wait + Sync,
@@ -129,8 +130,8 @@ pub fn serve_links<
 /// next link, except for those that were being written when a link failed. What waits for an
 /// application that has no link at the end is dropped and counted.
 ///
-/// A link may send 1,000 copies a second, and 400 at once if it has sent none for 0.4 seconds. A link
-/// that has sent more is read later.
+/// A link may send 1,000 copies a second, and 400 at once if it has sent none for 0.4 seconds. A
+/// link that has sent more is read later.
 ///
 /// Operators come in through a listener of their own, eight at a time, and send one [`Order`] each.
 /// The connection of an operator who sends nothing for two seconds is closed, and after 0.1 seconds
@@ -277,7 +278,7 @@ fn anew(crowded_wait: Option<u64>) -> Policy
     }
 }
 
-// Stands for the source of a list where there is none. It is never read.
+// The source of names of a life that has no list of them. It is never read.
 struct NoNames;
 
 impl NameSource for NoNames {
