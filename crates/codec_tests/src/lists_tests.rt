@@ -174,7 +174,8 @@ const FAULTS: &[(&[u8], &[(u64, LineFault)])] = &[
         ],
     ),
     (
-        b"DevEUI,Heard,Session\n70B3D57ED000000,1,no\n70B3D57ED0000001,x,no\n70B3D57ED0000001,1,n\n",
+        b"DevEUI,Heard,Session\n70B3D57ED000000,1,no\n70B3D57ED0000001,x,no\n\
+          70B3D57ED0000001,1,n\n",
         &[
             (2, Value(Column::DevEui)),
             (3, Value(Column::Heard)),
@@ -200,11 +201,13 @@ const NEEDED: &[(&[u8], LineFault)] = &[
         Missing(Column::AppKey),
     ),
     (
-        b"DevEUI,JoinEUI,AppKey\n70B3D57ED0000001,0102030405060708,2b7e151628aed2a6abf7158809cf4f3c\n",
+        b"DevEUI,JoinEUI,AppKey\n\
+          70B3D57ED0000001,0102030405060708,2b7e151628aed2a6abf7158809cf4f3c\n",
         Value(Column::AppKey),
     ),
     (
-        b"DevEUI,JoinEUI,AppKey\n70B3D57ED0000001,0102030405060708,2B7E151628AED2A6ABF7158809CF4F3C\n",
+        b"DevEUI,JoinEUI,AppKey\n\
+          70B3D57ED0000001,0102030405060708,2B7E151628AED2A6ABF7158809CF4F3C\n",
         Missing(Column::Application),
     ),
 ];
