@@ -3,8 +3,8 @@ use Rattle.sessions.specs.Table.{CanPlace, TableState, with_record}
 use Rattle.device_changes.proofs.Steps.{can_place, placed}
 use Rattle.device_changes.proofs.changing.with_changed_devices.Goals as goal
 
-pub place-requires : goal.place-requires
-place-requires c =
+pub set_device-requires : goal.set_device-requires
+set_device-requires c =
     let t = c.args.table.now in
     let rows = c.args.rows.now in
     let n = c.loop-slot.slot in

@@ -10,7 +10,7 @@ use Rattle.std.specs.HashMap.{get}
 use Rattle.sessions.specs.Table.{TableState, CanPlace, slot_of, with_record}
 use Rattle.sessions.specs.Index.{HaveOwnSlots, table_of}
 use Rattle.sessions.proofs.Slots.{place-replaced, place-pushed, own_names-replaced, own_names-pushed}
-use Rattle.sessions.proofs.table.Table.place.Goals as goal
+use Rattle.sessions.proofs.table.Table.set_device.Goals as goal
 
 abbrev name : Device → ℕ
 name d = d.dev_eui.0

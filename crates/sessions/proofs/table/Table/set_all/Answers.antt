@@ -4,10 +4,10 @@ use Rattle.devices.specs.declared.device.Device.{Device}
 use Rattle.sessions.specs.Table.{CanPlace}
 use Rattle.sessions.specs.Decision.{FitAll}
 use Rattle.sessions.proofs.Runs.{CanPlace-fits}
-use Rattle.sessions.proofs.table.Table.place_all.Goals as goal
+use Rattle.sessions.proofs.table.Table.set_all.Goals as goal
 
-pub place-requires : goal.place-requires
-place-requires c =
+pub set_device-requires : goal.set_device-requires
+set_device-requires c =
     let t = c.loop-decision.self in
     let d = c.in-Some.decision in
     let waiting : c.loop-decision.decision-iterator.rest.items ≡ d ∷ c.next.new.self.rest.items = grind (arith, common_steps) in

@@ -3,16 +3,16 @@ use Rattle.std.proofs.lemmas.Bool.{false≢true}
 use Rattle.std.proofs.lemmas.List.{take_all}
 use Rattle.sessions.specs.Decision.{Continues, ContinueAll, with_decisions}
 use Rattle.sessions.proofs.Runs.{ContinueAll-next, ContinueAll-more}
-use Rattle.sessions.proofs.table.Table.continuation_end_behind.Goals as goal
+use Rattle.sessions.proofs.table.Table.continuation_end_after.Goals as goal
 
 pub loop-at-init : goal.loop-at-init
 loop-at-init c = record { so_far = record { fit = tt; numbered = tt }; number = omega arith }
 
-pub admits_behind-requires-clause-own : goal.admits_behind-requires-clause-own
-admits_behind-requires-clause-own c = c.loop-at.invariant.so_far.fit
+pub admits_after-requires-clause-own : goal.admits_after-requires-clause-own
+admits_after-requires-clause-own c = c.loop-at.invariant.so_far.fit
 
-pub returns-then-not-admits_behind : goal.returns-then-not-admits_behind
-returns-then-not-admits_behind c all =
+pub returns-then-not-admits_after : goal.returns-then-not-admits_after
+returns-then-not-admits_after c all =
     let t = with_decisions c.args.self.now c.args.earlier.now in
     let ds = c.args.decisions.now in
     let n = c.loop-at.at in
@@ -20,7 +20,7 @@ returns-then-not-admits_behind c all =
     let next = ContinueAll-next t c.args.seq n d ds c.loop-at-test.true c.index-decisions-at.is all in
     let last : Continues (with_decisions t (take n ds)) c.loop-at.last d =
     subst (λ k. Continues (with_decisions t (take n ds)) k d) (sym c.loop-at.invariant.number) next in
-    false≢true (sym c.if-not-admits_behind.true ∙ c.admits_behind.ensures.1 last)
+    false≢true (sym c.if-not-admits_after.true ∙ c.admits_after.ensures.1 last)
 
 pub loop-at-preserved : goal.loop-at-preserved
 loop-at-preserved c =
@@ -28,7 +28,7 @@ loop-at-preserved c =
     let ds = c.args.decisions.now in
     let n = c.loop-at.at in
     let d = c.index-decisions-at.result in
-    let held : Continues (with_decisions t (take n ds)) c.loop-at.last d = c.admits_behind.ensures.0 c.if-not-admits_behind.false in
+    let held : Continues (with_decisions t (take n ds)) c.loop-at.last d = c.admits_after.ensures.0 c.if-not-admits_after.false in
     let next : Continues (with_decisions t (take n ds)) (c.args.seq + n) d =
     subst (λ k. Continues (with_decisions t (take n ds)) k d) c.loop-at.invariant.number held in
     record {

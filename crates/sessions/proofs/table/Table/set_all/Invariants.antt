@@ -1,7 +1,7 @@
 -- the records so far are placed, and the other decisions wait
 use Rattle.std.proofs.Common.{◌≡◌, ◌++◌}
 use Rattle.sessions.specs.Decision.{FitAll, with_decisions}
-use Rattle.sessions.proofs.table.Table.place_all.Given as goal
+use Rattle.sessions.proofs.table.Table.set_all.Given as goal
 
 abbrev pub invariant-loop-decision : goal.invariant-loop-decision
 invariant-loop-decision l =

@@ -1,7 +1,7 @@
 use Rattle.std.proofs.Common.{refl}
 use Rattle.sessions.specs.Decision.{with_decisions}
 use Rattle.sessions.proofs.Placing.{has-own-place, own-left}
-use Rattle.sessions.proofs.table.Table.has_place_behind.Goals as goal
+use Rattle.sessions.proofs.table.Table.has_room_after.Goals as goal
 
 pub returns-in-Some : goal.returns-in-Some
 returns-in-Some c =
