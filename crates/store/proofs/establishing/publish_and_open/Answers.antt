@@ -2,16 +2,16 @@ use Rattle.std.proofs.Common.{inl, sym, subst}
 use Rattle.disk.specs.State.{IsPermitted}
 use Rattle.gate_log.specs.Areas.{contents_with_checkpoint}
 use Rattle.store.proofs.Shut.{shut_behind, still_shut_either}
-use Rattle.store.proofs.establishing.publish_after.Goals as goal
+use Rattle.store.proofs.establishing.publish_and_open.Goals as goal
 
 pub returns-in-Ok-clause-done : goal.returns-in-Ok-clause-done
 returns-in-Ok-clause-done g c honest contents header records rest shut is follows =
-    c.open_after.ensures.done honest (contents_with_checkpoint contents header records) (c.in-Ok.ensures.done honest contents header records rest is follows)
+    c.open_superblock.ensures.done honest (contents_with_checkpoint contents header records) (c.in-Ok.ensures.done honest contents header records rest is follows)
     (shut_behind contents header records shut).some
 
 pub returns-in-Ok-clause-images : goal.returns-in-Ok-clause-images
 returns-in-Ok-clause-images g c honest contents header records rest shut is follows =
-    c.open_after.ensures.images honest (contents_with_checkpoint contents header records) (c.in-Ok.ensures.done honest contents header records rest is follows)
+    c.open_superblock.ensures.images honest (contents_with_checkpoint contents header records) (c.in-Ok.ensures.done honest contents header records rest is follows)
     (shut_behind contents header records shut).some
 
 pub returns-in-Err-clause-images : goal.returns-in-Err-clause-images

@@ -6,7 +6,7 @@ use Rattle.gate_log.specs.Areas.{Holds}
 use Rattle.gate_log.specs.Log.{IsAtRest, LogState, log_disk, log_state}
 use Rattle.store.specs.Establishing.{opened_contents}
 use Rattle.store.proofs.Shut.{opened_rest, torn_front}
-use Rattle.store.proofs.establishing.open_after.Goals as goal
+use Rattle.store.proofs.establishing.open_superblock.Goals as goal
 
 pub returns-in-Ok-clause-done : goal.returns-in-Ok-clause-done
 returns-in-Ok-clause-done g c honest contents rest some =
