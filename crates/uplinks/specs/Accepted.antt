@@ -76,7 +76,8 @@ mac_bytes addr c opts (Some sent) =
     sent.frm_payload else opts
 
 abbrev pub sent_commands : CurrentSession → Uplink → List ℕ
-sent_commands c u = mac_bytes u.frame.dev_addr c u.frame.contents.f_opts u.frame.contents.port_payload
+sent_commands c u =
+    mac_bytes u.frame.dev_addr c u.frame.contents.f_opts u.frame.contents.port_payload
 
 -- the commands that the network doesn't answer itself are reported, if there are any
 abbrev pub mac_report : Device → CurrentSession → List ℕ → List Effect
