@@ -47,7 +47,8 @@ class Setting:
 @dataclass(frozen=True)
 class Rules:
     """How decisions are made: with which margin in dB, of how many uplinks the best SNR counts,
-    from how many on the data rate alone is raised, and the highest index of power that is asked for.
+    from how many on the data rate alone is raised, and the highest index of power that is asked
+    for.
 
     The best SNR counts as at most `luck` dB above the mean. In time, 20 uplinks come of which one
     is much louder than usual. Without this bound each device would end at a data rate that it can't

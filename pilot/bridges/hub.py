@@ -1,7 +1,7 @@
 """Gateways' links to many stores. A store has 64 names of gateways at a time, and a gateway is
-heard for several stores. So a link is opened by a frame that is for its store. If as many links to a
-store are open as may be, the one that has been unused longest gives way. A downlink comes within the
-window and a commit, so a link that has been unused for a second isn't waited for.
+heard for several stores. So a link is opened by a frame that is for its store. If as many links to
+a store are open as may be, the one that has been unused longest gives way. A downlink comes within
+the window and a commit, so a link that has been unused for a second isn't waited for.
 
 A link never opens by itself: otherwise two bridges that a gateway came by in turn would take its
 name from each other without end."""

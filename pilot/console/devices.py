@@ -194,7 +194,8 @@ class Gateway:
     eui: str
     # None if the console doesn't know: the server says only how many gateways have a link
     is_linked: bool | None = None
-    # whether its links to many stores come and go, so that only its bridge knows whether it is there
+    # whether its links to many stores come and go, so that only its bridge knows whether it is
+    # there
     is_hubbed: bool = False
     # when it was last heard for each store, if there are several
     stores: dict[str, float] = field(default_factory=dict)

@@ -88,8 +88,8 @@ def item(eui: str, form: Form) -> Request:
 
 
 def devices(form: Form) -> Devices:
-    """The devices that a form adds: that of its fields; or those of its lines and its file, which are
-    read as a bridge reads a file of devices."""
+    """The devices that a form adds: that of its fields; or those of its lines and its file, which
+    are read as a bridge reads a file of devices."""
     if form.get("eui", "").strip():
         found = Devices()
         found.add(1, {column: form.get(name, "").strip() for name, column in FIELDS.items()})

@@ -1,5 +1,5 @@
-"""A client of etcd, version 3, by its JSON gateway: values, leases, transactions, and changes as they
-come. One thread at a time uses it."""
+"""A client of etcd, version 3, by its JSON gateway: values, leases, transactions, and changes as
+they come. One thread at a time uses it."""
 
 import base64
 import http.client
@@ -272,8 +272,8 @@ class Etcd:
 
 class Watch:
     """A stream of changes from the member that is asked now. It is asked for by HTTP 1.0, so that
-    the answer is a stream of lines until the connection ends. `seen` has the prefixes, each with the
-    revision after which changes are of use: those of two prefixes come in no common order."""
+    the answer is a stream of lines until the connection ends. `seen` has the prefixes, each with
+    the revision after which changes are of use: those of two prefixes come in no common order."""
 
     def __init__(self, etcd: Etcd, seen: dict[str, int]):
         self.etcd, self.seen = etcd, seen

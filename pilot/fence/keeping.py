@@ -21,12 +21,13 @@ from .judging import Found, Word, judge
 from .records import RUNNING, Fence, Unreadable
 from .server import Failed, Lnsd, Server
 
-# exit statuses, beside 0 after a clean end and 2 for wrong words: a fault that may pass, the fence's
-# refusal, another life of the store, and a fault of the server that needs its operator
+# exit statuses, beside 0 after a clean end and 2 for wrong words: a fault that may pass, the
+# fence's refusal, another life of the store, and a fault of the server that needs its operator
 AGAIN, REFUSED, OTHER_LIFE, FAULT = 1, 3, 4, 5
 # statuses of `lnsd run`: it can't listen on the address
 CANT_LISTEN = 3
-# seconds between two looks while another lease is waited for, and between two lives if one was short
+# seconds between two looks while another lease is waited for, and between two lives if one was
+# short
 LOOK, PAUSE, SHORT = 0.2, 1.0, 5.0
 # for how long a clean end is written again and again while the cluster is away, and how long the
 # server may take to end well, in seconds

@@ -53,8 +53,9 @@ class Record:
 @dataclass(frozen=True)
 class Fence(Record):
     """Which file of a store may be served. A life is from a start by a keeper to the next one. A
-    store that is `stopped` ended well: any file of this digest may be served. While it is `running`,
-    and after any other end, only the file at this home may, if its number isn't below this one."""
+    store that is `stopped` ended well: any file of this digest may be served. While it is
+    `running`, and after any other end, only the file at this home may, if its number isn't below
+    this one."""
 
     life: int
     state: str

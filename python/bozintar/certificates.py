@@ -1,5 +1,5 @@
-"""What files of certificates say that Python's own ssl doesn't show: when one ends, and which ones a
-revocation list (CRL, RFC 5280 §5) has, which ssl only refuses at a handshake."""
+"""What files of certificates say that Python's own ssl doesn't show: when one ends, and which ones
+a revocation list (CRL, RFC 5280 §5) has, which ssl only refuses at a handshake."""
 
 import ssl
 import subprocess

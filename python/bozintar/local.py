@@ -8,8 +8,8 @@ from .words import stop
 
 
 def listener(path: str) -> socket.socket:
-    """A socket that its owner and its group may write to. One that a program left when it was killed
-    is removed; one that a program still serves stays, and this program ends."""
+    """A socket that its owner and its group may write to. One that a program left when it was
+    killed is removed; one that a program still serves stays, and this program ends."""
     made = socket.socket(socket.AF_UNIX)
     try:
         made.connect(path)

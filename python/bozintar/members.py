@@ -47,7 +47,8 @@ class Access:
             stop("--certificate needs --ca: TLS is used with it alone", 2)
 
     def context(self) -> ssl.SSLContext | None:
-        """How a client uses TLS; None if it doesn't. It ends with a line if a file can't be read."""
+        """How a client uses TLS; None if it doesn't. It ends with a line if a file can't be
+        read."""
         if not self.ca:
             return None
         try:

@@ -1,5 +1,5 @@
-"""A console over several stores: their names beside devices and gateways, sums of their numbers, and
-what one of them says of another one's devices."""
+"""A console over several stores: their names beside devices and gateways, sums of their numbers,
+and what one of them says of another one's devices."""
 
 import signal
 from collections.abc import Iterator

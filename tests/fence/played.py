@@ -1,5 +1,5 @@
-"""An etcd that is played: it keeps values and leases by the rules of etcd's transactions, and loses or
-delays what a trial says."""
+"""An etcd that is played: it keeps values and leases by the rules of etcd's transactions, and loses
+or delays what a trial says."""
 
 from collections.abc import Callable, Sequence
 from typing import Any

@@ -1,5 +1,5 @@
-"""A member of etcd that loses answers, or hands questions on late: what stands between a client and a
-real member."""
+"""A member of etcd that loses answers, or hands questions on late: what stands between a client and
+a real member."""
 
 import json
 import threading

@@ -60,8 +60,8 @@ def test_late_beginning(kept: Kept, proxy: Proxy) -> None:
 
 
 def test_late_changes(kept: Kept, proxy: Proxy) -> None:
-    """While changes are late the store is served on, and after that the keeper goes on with the same
-    life."""
+    """While changes are late the store is served on, and after that the keeper goes on with the
+    same life."""
     file = kept.format()
     keeper = kept.serves(file, "--adopt", etcd=proxy.option)
     proxy.may_go.clear()

@@ -88,7 +88,8 @@ def test_nothing_new_is_not_written(trial: Trial) -> None:
 
 
 def test_two_at_once(trial: Trial) -> None:
-    """Of two keepers that have seen the same, one takes the store; the other one leaves no lease."""
+    """Of two keepers that have seen the same, one takes the store; the other one leaves no
+    lease."""
     before = seen(trial.etcd, NAME)
     one, two = trial.hold(), trial.hold()
     assert one.take(before, fence_of("a"))
@@ -115,7 +116,8 @@ class Twice(Played):
 
 
 def test_asked_twice() -> None:
-    """If the answer is lost and the next member is asked the same, the keeper knows its own life."""
+    """If the answer is lost and the next member is asked the same, the keeper knows its own
+    life."""
     trial = Trial(Twice())
     hold = trial.take("a")
     hold.show("h:1")
@@ -180,8 +182,8 @@ def test_a_late_beginning(trial: Trial) -> None:
 
 @pytest.mark.parametrize("fault", [LATE, LOST])
 def test_a_late_end(trial: Trial, fault: str) -> None:
-    """A clean end that etcd learns of late, after the next life has begun, doesn't end that one; and
-    one that it has learned of is written again without harm."""
+    """A clean end that etcd learns of late, after the next life has begun, doesn't end that one;
+    and one that it has learned of is written again without harm."""
     hold = trial.take("a")
     hold.show("h:1")
     trial.played.faults = [fault]

@@ -77,7 +77,8 @@ def test_steps() -> None:
 
 
 def test_frames() -> None:
-    """Stores take turns, and their devices do. A DevAddr has the NetID, the slot and JoinNonce 1."""
+    """Stores take turns, and their devices do. A DevAddr has the NetID, the slot and JoinNonce
+    1."""
     devices, gateways = 3, 2
     plans = fleet.of_all([0, 4], devices, gateways, 4, 1, 1000)
     for at, (plan, first) in enumerate(zip(plans, (0, 4))):

@@ -230,8 +230,8 @@ def restart_service(field: Field) -> None:
 
 
 # what happens after which uplink: in the middle of requests. The service isn't killed after the
-# fourth one, when it asks for the first settings and statuses: what it has handed to the library and
-# that hasn't sent it is lost, and a status is asked for once a day
+# fourth one, when it asks for the first settings and statuses: what it has handed to the library
+# and that hasn't sent it is lost, and a status is asked for once a day
 BETWEEN = {5: kill_service, 6: restart_server, 13: restart_service, 16: restart_broker}
 
 

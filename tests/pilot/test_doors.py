@@ -330,7 +330,8 @@ def test_client_without_tls(opened: Doors) -> None:
 
 
 def test_gateways_through_stunnel(doors: Doors) -> None:
-    """A gateway's bridge reaches the server by stunnel and the door; one that isn't named doesn't."""
+    """A gateway's bridge reaches the server by stunnel and the door; one that isn't named
+    doesn't."""
     doors.open()
     pilot, port = doors.pilot, doors.open_client(doors.port)
     named = [word for eui in (*GATEWAYS[:2], OTHERS) for word in ("--gateway", eui)]

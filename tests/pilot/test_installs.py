@@ -1,5 +1,5 @@
-"""What the package takes from a clone, into a folder of the trial's own: files that git knows alone,
-with modes that don't depend on the clone's. And the store that its unit makes at first."""
+"""What the package takes from a clone, into a folder of the trial's own: files that git knows
+alone, with modes that don't depend on the clone's. And the store that its unit makes at first."""
 
 import os
 import re
@@ -115,8 +115,8 @@ def packed(clone: Clone) -> Clone:
 
 
 def is_packed(top: Path, name: Path) -> bool:
-    """Whether a file of the clone is one of the programs and modules of the package, or one that the
-    console's site is made of."""
+    """Whether a file of the clone is one of the programs and modules of the package, or one that
+    the console's site is made of."""
     if name.is_relative_to("pilot/console/pages") or name.is_relative_to("pilot/console/static"):
         return True
     is_python = name.suffix == ".py" or b"python3" in (top / name).read_bytes().split(b"\n")[0]

@@ -335,7 +335,8 @@ TAKEN_SINCE = (
     f"70B3D57ED0000003 stored 1 missing 0 taken 0 lost 0 restored last {TIME}",
     "readings 11 missing 4 lost 5",
 )
-# without what lnsd restore printed, a loss is only seen if it is greater than what was stored before
+# without what lnsd restore printed, a loss is only seen if it is greater than what was stored
+# before
 TAKEN = (
     f"70B3D57ED0000001 stored 7 missing 0 taken 3 lost 0 restored last {TIME}",
     f"70B3D57ED0000002 stored 3 missing 4 taken 9 lost 6 last {TIME}",

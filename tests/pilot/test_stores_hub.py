@@ -1,5 +1,5 @@
-"""Links to many stores, beside stores that are played: when a link is opened, when it is closed, and
-what comes over it."""
+"""Links to many stores, beside stores that are played: when a link is opened, when it is closed,
+and what comes over it."""
 
 import time
 from collections.abc import Iterator

@@ -1,6 +1,6 @@
 """Which stores a frame is for: what is read of the files, and what is made of frames. The addresses
-are those of docs/FORMATS.md: bit 31 is 0, six bits of the NetID, twelve of the slot, thirteen of the
-JoinNonce."""
+are those of docs/FORMATS.md: bit 31 is 0, six bits of the NetID, twelve of the slot, thirteen of
+the JoinNonce."""
 
 import asyncio
 import os

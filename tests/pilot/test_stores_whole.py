@@ -32,8 +32,8 @@ QUIET = 3.0
 
 
 class City(Field):
-    """Three stores as one network: servers, bridges, a broker, gateways, and meters that are claimed
-    for the stores."""
+    """Three stores as one network: servers, bridges, a broker, gateways, and meters that are
+    claimed for the stores."""
 
     def __init__(self, servers: Servers) -> None:
         self.servers, self.meters_of = servers, dict[str, list[Meter]]()

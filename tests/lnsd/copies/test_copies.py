@@ -1,5 +1,5 @@
-"""`lnsd copy`: a copy has the table after the first n decisions, for some n that the store had while
-it was copied, whatever the server writes meanwhile."""
+"""`lnsd copy`: a copy has the table after the first n decisions, for some n that the store had
+while it was copied, whatever the server writes meanwhile."""
 
 import os
 import threading

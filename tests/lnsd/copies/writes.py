@@ -1,5 +1,5 @@
-"""The writes of a server, as docs/FORMATS.md has them, which come while `lnsd copy` reads: a library
-that is loaded before the program makes some of them before each read."""
+"""The writes of a server, as docs/FORMATS.md has them, which come while `lnsd copy` reads: a
+library that is loaded before the program makes some of them before each read."""
 
 import random
 import struct

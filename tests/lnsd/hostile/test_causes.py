@@ -1,5 +1,5 @@
-"""What a command prints after `lnsd: file` and `lnsd: listen`: the cause, as docs/OPERATING.md has it;
-and nothing of it from `format`, `list` and `serve`."""
+"""What a command prints after `lnsd: file` and `lnsd: listen`: the cause, as docs/OPERATING.md has
+it; and nothing of it from `format`, `list` and `serve`."""
 
 import os
 import socket
