@@ -188,12 +188,12 @@ impl<'x, B: Books, R: Wait, G: Gate, C: LifeClock> Worker<'x, B, R, G, C> {
 
     // Whether this side closed the link: what came before that is no longer of use.
     fn is_closed(&self) -> bool {
-        self.link.is_taken() || self.server.signals.is_stopped()
+        self.link.is_disconnected() || self.server.signals.is_stopped()
     }
 
     /// The input has ended. Inside a frame that is a fault, unless this side ended the input.
     pub(crate) fn end(&self) {
-        let is_cut = self.link.is_taken() || self.server.signals.is_ending();
+        let is_cut = self.link.is_disconnected() || self.server.signals.is_ending();
         if self.feeder.end().is_err() && !is_cut {
             self.count_fault();
         }

@@ -28,6 +28,11 @@ pub struct TextNames<'a> {
 }
 
 impl<'a> NameSource for TextNames<'a> {
+    ghost use Rattle.std.specs.Prelude.{⊤};
+
+    // How often it was read is in a cell, which has no model here.
+    ghost gives = { λ _ _. ⊤ };
+
     fn read(&self) -> Result<NameList, NameListFault> {
         let number = self.reads.fetch_add(1, SeqCst) as usize;
         match self.texts.get(number).or(self.texts.last()) {

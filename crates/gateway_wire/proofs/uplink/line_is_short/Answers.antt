@@ -1,23 +1,17 @@
-use Rattle.std.proofs.Common.{◌≡◌, ◌∷◌, ap, arith, codes, length, rules}
+use Rattle.std.proofs.Common.{◌∷◌, arith, codes, length}
 use Rattle.std.specs.Fmt.{decimal}
 use Rattle.std.proofs.lemmas.Fmt.{length-decimal-le, length_signed_le}
 use Rattle.lw_types.specs.Hex.{eui_text, field_text}
-use Rattle.lw_types.specs.Words.{line_of}
 use Rattle.gateway_wire.specs.AppLine.{heard_words}
 use Rattle.gateway_wire.proofs.LineLengths.{length-eui, length-field, length-line}
-use Rattle.gateway_wire.proofs.report.up_line.Goals as goal
+use Rattle.gateway_wire.proofs.uplink.line_is_short.Goals as goal
 
-pub returns-clause-line : goal.returns-clause-line
-unfolding line_of
-returns-clause-line c = search rules
-
-pub returns-clause-short : goal.returns-clause-short
-returns-clause-short c =
+pub returns : goal.returns
+returns c =
     let up = c.args.up.now in
     let best = up.best.now in
     let heard = heard_words up.copies best in
     let words = eui_text up.session.now.dev_eui ∷ decimal up.session.now.join_nonce ∷ decimal up.counter ∷ decimal up.port ∷ field_text up.payload.now ∷ heard in
-    let line : c.new.result ≡ line_of (codes "up" ∷ words) = returns-clause-line c in
     let ranges = c.numbers_are_in_range.ensures in
     let nonce = length-decimal-le 8 up.session.now.join_nonce (omega arith) (omega (arith, c.get-nonce.ensures.range)) (omega (arith, c.get-nonce.ensures.range)) in
     let counter = length-decimal-le 10 up.counter (omega arith) (omega (arith, ranges.counter)) (omega (arith, ranges.counter)) in
@@ -29,4 +23,4 @@ returns-clause-short c =
     let rssi = length_signed_le 5 best.rssi (omega (arith, ranges.rssi)) (omega (arith, ranges.rssi)) in
     let payload = length-field up.payload.now in
     let parts = length-line (codes "up") words in
-    omega (arith, ap length line, parts, length-eui up.session.now.dev_eui, nonce, counter, port, payload, c.as_slice.ensures.few, copies, length-eui best.gateway, frequency, data_rate, snr, rssi)
+    omega (arith, parts, length-eui up.session.now.dev_eui, nonce, counter, port, payload, c.as_slice-payload.ensures.few, copies, length-eui best.gateway, frequency, data_rate, snr, rssi)

@@ -1,0 +1,16 @@
+-- How a list of names is read for a life.
+use Rattle.std.specs.Prelude.{◌<◌, ◌≤◌, ◌≡◌, ◌⊎◌, ℕ, Result, Ok, Err}
+use Rattle.lnsd_operator.specs.declared.fault.NameListFault.{NameListFault}
+use Rattle.lnsd_operator.specs.declared.fault.NameListFault.TheVariants as faults
+use Rattle.lnsd_links.specs.Names.{number_of_names}
+use Rattle.lnsd_links.specs.declared.name_list.NameList.{NameList}
+
+-- The source gave this list, which has fewer names than there are places. Or it gave this fault, or
+-- a list of as many names or more.
+abbrev pub AreReadFrom : (Result NameList NameListFault → Type 0) → ℕ
+    → Result NameList NameListFault → Type 0
+AreReadFrom Gives places (Ok list) = Gives (Ok list) × (number_of_names list < places)
+AreReadFrom Gives places (Err fault) =
+    Gives (Err fault)
+    ⊎ ((fault ≡ faults.Places)
+    × ((list : NameList) × (Gives (Ok list) × (places ≤ number_of_names list))))
