@@ -133,21 +133,21 @@ module _ {D F C V : Type 0} (disk : Ghosts D) (gives : FeedGives F) (effects : V
         ]
 
     -- after chains that ended well
-    refused_behind : (old s new : Store D disk) (e : Refusal) → NoneFailed disk.failures disk.outlook old s → IsRefused disk s new e → IsRefused disk old new e
-    refused_behind old s new DeviceFailed first last =
+    refused_after : (old s new : Store D disk) (e : Refusal) → NoneFailed disk.failures disk.outlook old s → IsRefused disk s new e → IsRefused disk old new e
+    refused_after old s new DeviceFailed first last =
         (calls_then {T = Unit {0}} disk.failures disk.outlook old s new (Err DeviceFailed) first (refl, last)).1
-    refused_behind old s new OutOfMemory first none = none_then disk.failures disk.outlook old s new first none
-    refused_behind old s new OutOfStep first none = none_then disk.failures disk.outlook old s new first none
-    refused_behind old s new Failed first (none, had) = (none_then disk.failures disk.outlook old s new first none, sym first.failed ∙ had)
-    refused_behind old s new Damaged first (none, last) = (none_then disk.failures disk.outlook old s new first none, last)
-    refused_behind old s new e first never = absurd never
+    refused_after old s new OutOfMemory first none = none_then disk.failures disk.outlook old s new first none
+    refused_after old s new OutOfStep first none = none_then disk.failures disk.outlook old s new first none
+    refused_after old s new Failed first (none, had) = (none_then disk.failures disk.outlook old s new first none, sym first.failed ∙ had)
+    refused_after old s new Damaged first (none, last) = (none_then disk.failures disk.outlook old s new first none, last)
+    refused_after old s new e first never = absurd never
 
     all_refused : (old new : Store D disk) (p q : F) (x y : C) (counts : List ℕ) (e : Refusal)
         → MakeChains disk gives effects call most old new p q x y (answers_of counts (Err e)) → IsRefused disk old new e
     all_refused old new p q x y [] e (s, (f, (o, (chain, (same, rest))))) =
         subst (λ (t : Store D disk). IsRefused disk old t e) (sym same) (one_refused old s p f x o e chain)
     all_refused old new p q x y (n ∷ counts) e (s, (f, (o, (chain, rest)))) =
-        refused_behind old s new e chain.calls (all_refused s new f q o y counts e rest)
+        refused_after old s new e chain.calls (all_refused s new f q o y counts e rest)
 
   pub refused_by : (old new : Store D disk) (p q : F) (x y : C) (counts : List ℕ) (result : Result (Unit {0}) Refusal)
       → MakeChains disk gives effects call most old new p q x y (answers_of counts result)
