@@ -22,5 +22,5 @@ passed_on Gives places len (Err answered) e same is read =
 pub returns-in_err-list : goal.returns-in_err-list
 returns-in_err-list g c =
     passed_on (g.S.NameSource.gives c.args.source.now) (length c.args.self.now.links.items) c.len.result c.from_residual.result c.in_err-list.field-0.0
-    c.len.ensures c.from_residual.ensures.1
+    (omega (arith, c.len.ensures)) c.from_residual.ensures.1
     (subst (AreReadFrom (g.S.NameSource.gives c.args.source.now) c.len.result) c.in_err-list.was c.read_names.ensures.read)
