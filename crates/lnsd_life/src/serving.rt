@@ -1,7 +1,7 @@
 // One life of a server.
 ghost use Rattle.std.specs.Prelude.{◌≡◌, ◌≢◌, ◌≤◌, ◌+◌, length, sum, Err, IfErr, IfOk, IsOkAnd};
 ghost use Rattle.std.specs.Prelude.{ℕ, cond, map, slice_get, IsOk, IsTrue, MatchResult, None};
-ghost use Rattle.std.specs.Prelude.{OnOk, Option, Some};
+ghost use Rattle.std.specs.Prelude.{OnOk, Option, Some, false, true};
 ghost use Rattle.session_core.specs.History.{HasAllDecisions};
 ghost use Rattle.lnsd_links.specs.declared.door.Entrance.TheVariants.{Filled};
 ghost use Rattle.lnsd_links.specs.declared.allowance.CopyRate.TheVariants.{PerSecond};
