@@ -31,7 +31,8 @@ values_text values = join_with_byte 44 values
 
 abbrev pub head_line : List ℕ
 head_line =
-    codes "DevEUI,JoinEUI,AppKey,Application,Offset,Delay,LastDevNonce,LastJoinNonce,Heard,Session\n"
+    codes
+    "DevEUI,JoinEUI,AppKey,Application,Offset,Delay,LastDevNonce,LastJoinNonce,Heard,Session\n"
 
 -- who the device is, its settings, and how far it has come
 abbrev pub identity_values : AppKeys → Device → List (List ℕ)

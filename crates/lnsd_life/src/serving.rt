@@ -64,10 +64,10 @@ use store::Store;
 ///
 /// The contract says only this: the shares sum to the number of decisions made. If there is a
 /// report, the store's number grew by this number, no call of the disk failed, and the report has
-/// a share of each link and one of the closer. If there is none, it says why. The store goes on
-/// from where it was. What was committed is the beginning of a list of decisions, or the whole list
-/// if there is a report. The calls that it makes have proofs of their own; the rest is shown by
-/// tests on sockets.
+/// a share of each link and one of the closer. If there is none, it says why. The decisions that
+/// were committed continue the store, in order. If there is a report, their number is the number of
+/// decisions made. The calls that it makes have proofs of their own; the rest is shown by tests on
+/// sockets.
 pub fn serve_links<
     'x,
     R: Threads + Wait + Sync,

@@ -19,10 +19,9 @@ use std::sync::{Mutex, Wait};
 /// The links, the data behind locks, and the signals. No thread holds the locks of the sessions and
 /// of the directory at once, nor one of them while it reads, writes or syncs.
 ///
-/// While the directory is locked, a greeting closes an older link of its name, and sends an event to
-/// the operators who watch; and a new list of names closes links. This takes the locks of these
-/// links' sockets and of the watchers' places. Nothing else takes a lock while the directory is
-/// locked.
+/// While the directory is locked, a greeting closes an older link of its name and sends an event to
+/// operators who watch, and a new list of names closes links. This takes the locks of these links'
+/// sockets and of the watchers' places. Nothing else takes a lock while the directory is locked.
 #[derive(Drop)]
 pub struct LiveServer<B: Books> {
     pub links: Vec<Link>,
