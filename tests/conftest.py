@@ -53,6 +53,8 @@ def pytest_configure(config: pytest.Config) -> None:
     """SIGTERM and SIGHUP end a run as Ctrl-C does: fixtures end what they started."""
     for number in (signal.SIGTERM, signal.SIGHUP):
         signal.signal(number, end)
+    # A shell lets jobs in the background ignore SIGINT. What they start would ignore it, too.
+    signal.signal(signal.SIGINT, signal.default_int_handler)
 
 
 def end(number: int, _frame: FrameType | None) -> NoReturn:

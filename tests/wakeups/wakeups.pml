@@ -514,7 +514,7 @@ end_accept:
         holder = place;
         if :: older == NOBODY -> goto start :: else -> is_taking_over = true fi
     }
-    /* lnsd_links/link: Link::take */
+    /* lnsd_links/link: Link::disconnect */
     taken[older] = true;
     /* lnsd_links/link: Link::close
      * lnsd_links/link: Link::shut */

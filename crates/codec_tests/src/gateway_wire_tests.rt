@@ -8,8 +8,8 @@ use devices::{
     UplinkCount,
 };
 use gateway_wire::{
-    Emission, Request, app_line, gateway_bytes, list_text, next_ranged, next_value, read_line,
-    read_request,
+    Emission, Request, answer_frame, app_line, gateway_bytes, list_text, next_ranged, next_value,
+    put_effect, put_refusal, read_line, read_request,
 };
 use lw_types::{Eui, JoinNonce, NetId, PhyPayload, Reception, Refusal, Words, write_hex};
 use sessions::{Slots, Table};
@@ -162,6 +162,12 @@ const EFFECTS: &[(Leaving, &str, usize, &str)] = &[
     ),
     (
         Leaving::Up(""),
+        "up 1112131415161718 16777215 4294967295 223 - 32 00000000000000B1 868100000 5 -20 -95",
+        0,
+        "",
+    ),
+    (
+        Leaving::Up(""),
         "up 1112131415161718 16777215 4294967295 223 ",
         242,
         " 32 00000000000000B1 868100000 5 -20 -95",
@@ -227,9 +233,25 @@ fn is_alone(alloc: Global, effect: &Effect, wanted: &str) -> bool {
     }
 }
 
+// Whether this is put after another byte as its frame.
+fn is_put(alloc: Global, effect: &Effect, emission: &Emission) -> Option<bool> {
+    let mut bytes = Vec::new(alloc);
+    bytes.push(0x2A).ok()?;
+    put_effect(alloc, effect, &mut bytes).ok()?;
+    let put = bytes.as_slice().strip_prefix(&[0x2A])?;
+    match emission {
+        Emission::Gateway { frame, .. } => Some(put == frame.as_slice()),
+        Emission::Application { line, .. } => {
+            let frame = answer_frame(alloc, line).ok()?;
+            Some(put == frame.as_slice())
+        }
+    }
+}
+
 fn left_as(alloc: Global, effect: &Effect) -> Option<String> {
-    let text = shown(alloc, &Emission::of(alloc, effect).ok()?)?;
-    if is_alone(alloc, effect, &text) {
+    let emission = Emission::of(alloc, effect).ok()?;
+    let text = shown(alloc, &emission)?;
+    if is_alone(alloc, effect, &text) && is_put(alloc, effect, &emission)? {
         Some(text)
     } else {
         None
@@ -261,6 +283,13 @@ fn wrong_effects(alloc: Global) -> Result<String, Refusal> {
 fn each_effect_leaves_as_its_frame_or_its_line(rt: HostRuntime) {
     let wrong = wrong_effects(rt.alloc()).expect(&rt, "memory");
     assert!(rt; wrong.is_empty(), "{wrong}");
+}
+
+#[test]
+fn a_refusal_is_put_as_the_frame_of_its_answer(rt: HostRuntime) {
+    let mut bytes = Vec::new(rt.alloc());
+    put_refusal(rt.alloc(), Refusal::BadMessage, &mut bytes).expect(&rt, "memory");
+    assert!(rt; has_hex(rt.alloc(), bytes.as_slice(), "000B1372656675736564203531"));
 }
 
 fn forward_is_marked(alloc: Global) -> Option<bool> {

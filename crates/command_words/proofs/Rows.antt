@@ -1,12 +1,12 @@
 -- From what clap's getters answer to the rows of a command.
 use Rattle.std.proofs.Common.{◌≡◌, ◌∙◌, ◌+◌, ◌*◌, ◌<◌, ◌≤◌, ◌^◌, ℕ, List, Option, Some, None, Result, Ok, Err, Box, sym, ap, ap₂, refl, subst, arith, zero, suc, [], ◌∷◌, drop, get_or, length, ◌&&◌, codes, map, slice_index, option_map, Bool, true, false, ◌==◌, ◌||◌}
-use Rattle.std.specs.Prelude.{MatchOption, is_none}
+use Rattle.std.specs.Prelude.{IfSome, MatchOption, is_none}
 use Rattle.std.specs.Bool.{MatchBool}
 use denote.Ref.{Bor}
 use Rattle.std.specs.List.{AllByRecursion}
 use Rattle.std.proofs.lemmas.Bool.{true≢false}
 use Rattle.std.proofs.lemmas.Option.{none-some}
-use Rattle.std.specs.Option.{unwrap_or}
+use Rattle.std.specs.Option.{SomeIff, unwrap_or}
 use Rattle.std.specs.Str.Parse.{IsNumeral, ParsesUnsigned, digits_value, without_leading_plus}
 use Rattle.clap.specs.Words.{ReadsOne, Row, Text, all_of, first_of, first_value, matched_of, one_text, raw_values, rows_of}
 use Rattle.clap.specs.Words.{subcommand_name_of, subcommand_rows, subcommand_rows_of}
@@ -356,3 +356,17 @@ eui_at (first ∷ texts) (e ∷ euis) zero t below all same_texts =
     (e, all.0, ap (λ l. get_or l 0 (eui_text e)) same_texts)
 eui_at (first ∷ texts) (e ∷ euis) (suc i) t below all same_texts =
     eui_at texts euis i t (omega (arith, below)) all.1 (ap (drop 1) same_texts)
+
+-- the number of an option, if it is in the range
+pub number_within : (id : Text) (rows : List Row) (r : Option ℕ) (least most v : ℕ) → SomeIff r ((least ≤ v) × (v ≤ most)) v
+    → IsNumberOf id rows v → IfSome r (IsNumberOf id rows)
+number_within id rows None least most v is spelled = tt
+number_within id rows (Some n) least most v is spelled = subst (λ n. IsNumberOf id rows n) (sym is.1) spelled
+
+-- and no other
+pub number_without : (id : Text) (rows : List Row) (r : Option ℕ) (least most v : ℕ) → SomeIff r ((least ≤ v) × (v ≤ most)) v
+    → IsNumberOf id rows v → r ≡ None → (n : ℕ) → least ≤ n → n ≤ most → IsNumberOf id rows n → ⊥
+number_without id rows (Some v) least most w is spelled e n from to h = none-some v (sym e)
+number_without id rows None least most v not spelled e n from to h =
+    let once = number_once id rows v n spelled h in
+    not (subst (λ n. least ≤ n) (sym once) from, subst (λ n. n ≤ most) (sym once) to)

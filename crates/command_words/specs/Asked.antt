@@ -1,12 +1,14 @@
 -- What words ask for.
 use Rattle.std.specs.Prelude.{◌≡◌, ◌≢◌, ◌<◌, ◌≤◌, ◌^◌, ◌⊎◌, ℕ, List, [], Option, Some, codes}
-use Rattle.std.specs.Prelude.{None, Bool, true, false, map, option_map}
+use Rattle.std.specs.Prelude.{None, Bool, MatchOption, true, false, map, option_map}
 use Rattle.std.specs.List.{AllByRecursion}
 use Rattle.std.specs.Str.Parse.{IsNumeral, digits_value, without_leading_plus}
-use Rattle.clap.specs.Words.{IsAmong, Row, Text, all_of, fault_of, first_of, one_of, subcommand_of}
+use Rattle.clap.specs.Words.{IsAmong, Row, Text, all_of, fault_of, first_of, found_of, one_of}
+use Rattle.clap.specs.Words.{rows_of, subcommand_of}
 use Rattle.clap.specs.declared.error.kind.ErrorKind.{ErrorKind}
 use Rattle.clap.specs.declared.error.kind.ErrorKind.TheVariants.{DisplayHelp, DisplayVersion}
 use Rattle.clap.specs.declared.error.kind.ErrorKind.TheVariants.{OutOfMemory}
+use Rattle.clap.specs.declared.parser.matches.ArgMatches.{ArgMatches}
 use Rattle.lw_types.specs.Hex.{eui_text, net_id_text}
 use Rattle.lw_types.specs.declared.identifiers.Eui.{Eui}
 use Rattle.command_words.specs.declared.mode.Edit.{Edit}
@@ -175,6 +177,13 @@ IsInRange (mode.Restore file new_file grants above) = (1 ≤ grants) × (grants 
 -- a command of this word asks for no mode in its ranges
 abbrev pub AsksForNone : Text → List Row → Type 0
 AsksForNone word rows = (m : Mode) → IsInRange m → AsksForMode word rows m → ⊥
+
+-- The command of this word, with these matches of clap, asks for this mode. If the mode is `None`,
+-- the command asks for no mode that is in its ranges.
+abbrev pub AsksForExactly : Text → ArgMatches → Option Mode → Type 0
+AsksForExactly word matches asked =
+    MatchOption asked (AsksForNone word (rows_of (found_of matches)))
+    (AsksForMode word (rows_of (found_of matches)))
 
 -- no mode of a command is in its ranges
 abbrev pub HasNoMode : Option (Text × List Row) → Type 0

@@ -1,207 +1,172 @@
 // What each command asks for.
-ghost use Rattle.std.specs.Prelude.{◌≡◌, ◌<◌, ◌^◌, ℕ, List, IfOk, IfSome, MatchOption, None, Some};
+ghost use Rattle.std.specs.Prelude.{◌≡◌, ◌<◌, ◌≤◌, ◌^◌, ℕ, List, IfOk, IfSome, MatchOption, None};
 ghost use Rattle.std.specs.Bool.{MatchBool};
-ghost use Rattle.std.specs.Prelude.{codes, map};
+ghost use Rattle.std.specs.Prelude.{Some, codes, map};
 ghost use Rattle.std.specs.List.{AllByRecursion};
-ghost use Rattle.clap.specs.Words.{Row, Text, first_of, found_of, rows_of};
+ghost use Rattle.clap.specs.Words.{first_of, found_of, rows_of};
 ghost use Rattle.lw_types.specs.Hex.{eui_text};
 ghost use Rattle.lw_types.specs.declared.identifiers.Eui.{Eui};
-ghost use Rattle.command_words.specs.Asked.{AreSlots, AsksForNone, HasLinkOptions, HasNewStore};
-ghost use Rattle.command_words.specs.Asked.{HasNoNewStore};
-ghost use Rattle.command_words.specs.Asked.{AsksForMode, IsDryRun, FitsEui, IsFlagOf, IsNumberOf};
+ghost use Rattle.command_words.specs.Asked.{AreSlots, AsksForExactly, FitsEui, HasNewStore};
+ghost use Rattle.command_words.specs.Asked.{HasNoNewStore, IsFlagOf, IsNumberOf};
 
 use crate::mode::{Edit, Mode};
 use clap::ArgMatches;
 use lw_types::{Eui, FromText, NetId, Ranged};
 use std::alloc::{AllocError, Global};
 
-/// What the command of this name asks for, whose file is known. `None` if a value is invalid, or
-/// there is no such command. Fails only if memory runs out.
-pub(crate) fn asked_mode<'a>(
-    alloc: Global,
-    name: &str,
-    file: &'a str,
-    matches: &ArgMatches<'a>,
-) -> Result<Option<Mode<'a>>, AllocError>
-    requires { first_of (codes "file") (rows_of (found_of matches.now)) ≡ Some file.now }
-    ensures { IfOk result (λ asked. MatchOption asked
-        (AsksForNone name.now (rows_of (found_of matches.now)))
-        (AsksForMode name.now (rows_of (found_of matches.now)))) }
-{
-    match name {
-        "format" => Ok(format_mode(file, matches)),
-        "list" => Ok(Some(Mode::List { file })),
-        "serve" => Ok(serve_mode(file, matches)),
-        "run" => Ok(run_mode(file, matches)),
-        "stop" => Ok(Some(Mode::Stop { file })),
-        "devices" => Ok(Some(Mode::Devices { file })),
-        "watch" => Ok(Some(Mode::Watch { file })),
-        "reload" => Ok(Some(Mode::Reload { file })),
-        "copy" => Ok(copy_mode(file, matches)),
-        "status" => Ok(status_mode(file, matches)),
-        "restore" => Ok(restore_mode(file, matches)),
-        "export" => Ok(Some(export_mode(file, matches))),
-        "import" => Ok(import_mode(file, matches)),
-        "amend" => Ok(amend_mode(file, matches)),
-        "retire" => retire_mode(alloc, file, matches),
-        "grow" => Ok(grow_mode(file, matches)),
-        _ => Ok(None),
+/// What clap found after the name of a command, and the command's file.
+#[derive(Clone, Copy)]
+pub(crate) struct Given<'x, 'a> {
+    pub(crate) file: &'a str,
+    pub(crate) matches: &'x ArgMatches<'a>,
+    ghost is_found: { first_of (codes "file") (rows_of (found_of matches.now)) ≡ Some file.now },
+}
+
+impl<'x, 'a> Given<'x, 'a> {
+    /// What the command of this name asks for. `None` if a value is invalid, or there is no such
+    /// command. Fails only if memory runs out.
+    pub(crate) fn mode(&self, alloc: Global, name: &str) -> Result<Option<Mode<'a>>, AllocError>
+        ensures { IfOk result (AsksForExactly name.now self.now.matches.now) }
+    {
+        let file = self.file;
+        match name {
+            "format" => Ok(self.format()),
+            "list" => Ok(Some(Mode::List { file })),
+            "serve" => Ok(self.serve()),
+            "run" => Ok(self.run()),
+            "stop" => Ok(Some(Mode::Stop { file })),
+            "devices" => Ok(Some(Mode::Devices { file })),
+            "watch" => Ok(Some(Mode::Watch { file })),
+            "reload" => Ok(Some(Mode::Reload { file })),
+            "copy" => Ok(self.copy()),
+            "status" => Ok(self.server_status()),
+            "restore" => Ok(self.restore()),
+            "export" => Ok(Some(self.export())),
+            "import" => Ok(self.import()),
+            "amend" => Ok(self.amend()),
+            "retire" => self.retire(alloc),
+            "grow" => Ok(self.grow()),
+            _ => Ok(None),
+        }
     }
-}
 
-fn format_mode<'a>(file: &'a str, matches: &ArgMatches<'a>) -> Option<Mode<'a>>
-    requires { first_of (codes "file") (rows_of (found_of matches.now)) ≡ Some file.now }
-    ensures { MatchOption result (AsksForNone (codes "format") (rows_of (found_of matches.now)))
-        (AsksForMode (codes "format") (rows_of (found_of matches.now))) }
-{
-    let (net_id, slots) = new_store_options(matches)?;
-    Some(Mode::Format {
-        file,
-        net_id,
-        slots,
-    })
-}
-
-fn serve_mode<'a>(file: &'a str, matches: &ArgMatches<'a>) -> Option<Mode<'a>>
-    requires { first_of (codes "file") (rows_of (found_of matches.now)) ≡ Some file.now }
-    ensures { MatchOption result (AsksForNone (codes "serve") (rows_of (found_of matches.now)))
-        (AsksForMode (codes "serve") (rows_of (found_of matches.now))) }
-{
-    let (listen, links) = link_options(matches)?;
-    let links = Ranged::new(links)?;
-    Some(Mode::Serve {
-        file,
-        listen,
-        links,
-    })
-}
-
-fn run_mode<'a>(file: &'a str, matches: &ArgMatches<'a>) -> Option<Mode<'a>>
-    requires { first_of (codes "file") (rows_of (found_of matches.now)) ≡ Some file.now }
-    ensures { MatchOption result (AsksForNone (codes "run") (rows_of (found_of matches.now)))
-        (AsksForMode (codes "run") (rows_of (found_of matches.now))) }
-{
-    let (listen, links) = link_options(matches)?;
-    let links = Ranged::new(links)?;
-    let names = matches.get_str("names");
-    Some(Mode::Run {
-        file,
-        listen,
-        links,
-        names,
-    })
-}
-
-fn status_mode<'a>(file: &'a str, matches: &ArgMatches<'a>) -> Option<Mode<'a>>
-    requires { first_of (codes "file") (rows_of (found_of matches.now)) ≡ Some file.now }
-    ensures { MatchOption result (AsksForNone (codes "status") (rows_of (found_of matches.now)))
-        (AsksForMode (codes "status") (rows_of (found_of matches.now))) }
-{
-    let wait = Ranged::new(option_number(matches, "wait")?)?;
-    Some(Mode::Status { file, wait })
-}
-
-fn restore_mode<'a>(file: &'a str, matches: &ArgMatches<'a>) -> Option<Mode<'a>>
-    requires { first_of (codes "file") (rows_of (found_of matches.now)) ≡ Some file.now }
-    ensures { MatchOption result (AsksForNone (codes "restore") (rows_of (found_of matches.now)))
-        (AsksForMode (codes "restore") (rows_of (found_of matches.now))) }
-{
-    let new = matches.get_str("new")?;
-    let grants = Ranged::new(option_number(matches, "grants")?)?;
-    let above = matches.get_str("above");
-    Some(Mode::Restore {
-        file,
-        new,
-        grants,
-        above,
-    })
-}
-
-fn copy_mode<'a>(file: &'a str, matches: &ArgMatches<'a>) -> Option<Mode<'a>>
-    requires { first_of (codes "file") (rows_of (found_of matches.now)) ≡ Some file.now }
-    ensures { MatchOption result (AsksForNone (codes "copy") (rows_of (found_of matches.now)))
-        (AsksForMode (codes "copy") (rows_of (found_of matches.now))) }
-{
-    let new = matches.get_str("new")?;
-    Some(Mode::Copy { file, new })
-}
-
-fn export_mode<'a>(file: &'a str, matches: &ArgMatches<'a>) -> Mode<'a>
-    requires { first_of (codes "file") (rows_of (found_of matches.now)) ≡ Some file.now }
-    ensures { AsksForMode (codes "export") (rows_of (found_of matches.now)) result }
-{
-    let keys = is_given(matches, "keys");
-    Mode::Edit(Edit::Export { file, keys })
-}
-
-fn import_mode<'a>(file: &'a str, matches: &ArgMatches<'a>) -> Option<Mode<'a>>
-    requires { first_of (codes "file") (rows_of (found_of matches.now)) ≡ Some file.now }
-    ensures { MatchOption result (AsksForNone (codes "import") (rows_of (found_of matches.now)))
-        (AsksForMode (codes "import") (rows_of (found_of matches.now))) }
-{
-    let csv = matches.get_str("csv")?;
-    let dry_run = is_given(matches, "dry-run");
-    if is_without_new_store(matches) {
-        return Some(Mode::Edit(Edit::Import { csv, file, dry_run }));
+    fn format(&self) -> Option<Mode<'a>>
+        ensures { AsksForExactly (codes "format") self.now.matches.now result }
+    {
+        let (net_id, slots) = new_store_options(self.matches)?;
+        Some(Mode::Format {
+            file: self.file,
+            net_id,
+            slots,
+        })
     }
-    let (net_id, slots) = new_store_options(matches)?;
-    Some(Mode::Edit(Edit::ImportAsNew {
-        csv,
-        file,
-        net_id,
-        slots,
-        dry_run,
-    }))
-}
 
-fn amend_mode<'a>(file: &'a str, matches: &ArgMatches<'a>) -> Option<Mode<'a>>
-    requires { first_of (codes "file") (rows_of (found_of matches.now)) ≡ Some file.now }
-    ensures { MatchOption result (AsksForNone (codes "amend") (rows_of (found_of matches.now)))
-        (AsksForMode (codes "amend") (rows_of (found_of matches.now))) }
-{
-    let csv = matches.get_str("csv")?;
-    let dry_run = is_given(matches, "dry-run");
-    Some(Mode::Edit(Edit::Amend { file, csv, dry_run }))
-}
+    fn serve(&self) -> Option<Mode<'a>>
+        ensures { AsksForExactly (codes "serve") self.now.matches.now result }
+    {
+        Some(Mode::Serve {
+            file: self.file,
+            listen: self.matches.get_str("listen")?,
+            links: number_given(self.matches, "links")?,
+        })
+    }
 
-fn retire_mode<'a>(
-    alloc: Global,
-    file: &'a str,
-    matches: &ArgMatches<'a>,
-) -> Result<Option<Mode<'a>>, AllocError>
-    requires { first_of (codes "file") (rows_of (found_of matches.now)) ≡ Some file.now }
-    ensures { IfOk result (λ asked. MatchOption asked
-        (AsksForNone (codes "retire") (rows_of (found_of matches.now)))
-        (AsksForMode (codes "retire") (rows_of (found_of matches.now)))) }
-{
-    let dry_run = is_given(matches, "dry-run");
-    let Some(texts) = matches.get_raw("deveui") else {
-        return Ok(None);
-    };
-    match euis_of(alloc, texts)? {
-        Some(dev_euis) => Ok(Some(Mode::Edit(Edit::Retire {
+    fn run(&self) -> Option<Mode<'a>>
+        ensures { AsksForExactly (codes "run") self.now.matches.now result }
+    {
+        Some(Mode::Run {
+            file: self.file,
+            listen: self.matches.get_str("listen")?,
+            links: number_given(self.matches, "links")?,
+            names: self.matches.get_str("names"),
+        })
+    }
+
+    fn server_status(&self) -> Option<Mode<'a>>
+        ensures { AsksForExactly (codes "status") self.now.matches.now result }
+    {
+        let (file, wait) = (self.file, number_given(self.matches, "wait")?);
+        Some(Mode::Status { file, wait })
+    }
+
+    fn restore(&self) -> Option<Mode<'a>>
+        ensures { AsksForExactly (codes "restore") self.now.matches.now result }
+    {
+        Some(Mode::Restore {
+            file: self.file,
+            new: self.matches.get_str("new")?,
+            grants: number_given(self.matches, "grants")?,
+            above: self.matches.get_str("above"),
+        })
+    }
+
+    fn copy(&self) -> Option<Mode<'a>>
+        ensures { AsksForExactly (codes "copy") self.now.matches.now result }
+    {
+        let (file, new) = (self.file, self.matches.get_str("new")?);
+        Some(Mode::Copy { file, new })
+    }
+
+    fn export(&self) -> Mode<'a>
+        ensures { AsksForExactly (codes "export") self.now.matches.now (Some result) }
+    {
+        let (file, keys) = (self.file, is_given(self.matches, "keys"));
+        Mode::Edit(Edit::Export { file, keys })
+    }
+
+    fn import(&self) -> Option<Mode<'a>>
+        ensures { AsksForExactly (codes "import") self.now.matches.now result }
+    {
+        let (file, csv) = (self.file, self.matches.get_str("csv")?);
+        let dry_run = is_given(self.matches, "dry-run");
+        if is_without_new_store(self.matches) {
+            return Some(Mode::Edit(Edit::Import { csv, file, dry_run }));
+        }
+        let (net_id, slots) = new_store_options(self.matches)?;
+        Some(Mode::Edit(Edit::ImportAsNew {
+            csv,
             file,
-            dev_euis,
+            net_id,
+            slots,
             dry_run,
-        }))),
-        None => Ok(None),
+        }))
     }
-}
 
-fn grow_mode<'a>(file: &'a str, matches: &ArgMatches<'a>) -> Option<Mode<'a>>
-    requires { first_of (codes "file") (rows_of (found_of matches.now)) ≡ Some file.now }
-    ensures { MatchOption result (AsksForNone (codes "grow") (rows_of (found_of matches.now)))
-        (AsksForMode (codes "grow") (rows_of (found_of matches.now))) }
-{
-    let new = matches.get_str("new")?;
-    let slots = Ranged::new(option_number(matches, "slots")?)?;
-    let dry_run = is_given(matches, "dry-run");
-    Some(Mode::Edit(Edit::Grow {
-        file,
-        new,
-        slots,
-        dry_run,
-    }))
+    fn amend(&self) -> Option<Mode<'a>>
+        ensures { AsksForExactly (codes "amend") self.now.matches.now result }
+    {
+        let (file, csv) = (self.file, self.matches.get_str("csv")?);
+        let dry_run = is_given(self.matches, "dry-run");
+        Some(Mode::Edit(Edit::Amend { file, csv, dry_run }))
+    }
+
+    fn retire(&self, alloc: Global) -> Result<Option<Mode<'a>>, AllocError>
+        ensures { IfOk result (AsksForExactly (codes "retire") self.now.matches.now) }
+    {
+        let dry_run = is_given(self.matches, "dry-run");
+        let Some(texts) = self.matches.get_raw("deveui") else {
+            return Ok(None);
+        };
+        match euis_of(alloc, texts)? {
+            Some(dev_euis) => Ok(Some(Mode::Edit(Edit::Retire {
+                file: self.file,
+                dev_euis,
+                dry_run,
+            }))),
+            None => Ok(None),
+        }
+    }
+
+    fn grow(&self) -> Option<Mode<'a>>
+        ensures { AsksForExactly (codes "grow") self.now.matches.now result }
+    {
+        Some(Mode::Edit(Edit::Grow {
+            file: self.file,
+            new: self.matches.get_str("new")?,
+            slots: number_given(self.matches, "slots")?,
+            dry_run: is_given(self.matches, "dry-run"),
+        }))
+    }
 }
 
 // Whether neither the network nor the number of slots of a new store is given.
@@ -219,28 +184,21 @@ fn new_store_options(matches: &ArgMatches<'_>) -> Option<(NetId, Ranged<1, 4096>
         → HasNewStore (rows_of (found_of matches.now)) net_id slots → ⊥ }
 {
     let net_id = NetId::from_text(matches.get_str("netid")?)?;
-    let slots = Ranged::new(option_number(matches, "slots")?)?;
-    Some((net_id, slots))
+    Some((net_id, number_given(matches, "slots")?))
 }
 
-// The address that links connect to, and the number of links.
-fn link_options<'a>(matches: &ArgMatches<'a>) -> Option<(&'a str, u64)>
-    ensures some { IfSome result
-        (λ r. HasLinkOptions (rows_of (found_of matches.now)) r.0.now r.1) }
-    ensures none { result ≡ None → (listen : Text) (links : ℕ) → links < 2 ^ 32
-        → HasLinkOptions (rows_of (found_of matches.now)) listen links → ⊥ }
-{
-    Some((matches.get_str("listen")?, option_number(matches, "links")?))
-}
-
-// The number of an option, below 2^32.
-fn option_number(matches: &ArgMatches<'_>, id: &str) -> Option<u64>
+// The number of an option, if it is in this range.
+fn number_given<const LEAST: u64, const MOST: u64>(
+    matches: &ArgMatches<'_>,
+    id: &str,
+) -> Option<Ranged<LEAST, MOST>>
+    requires { MOST < 2 ^ 32 }
     ensures some { IfSome result (IsNumberOf id.now (rows_of (found_of matches.now))) }
-    ensures none { result ≡ None → (n : ℕ) → n < 2 ^ 32
+    ensures none { result ≡ None → (n : ℕ) → LEAST ≤ n → n ≤ MOST
         → IsNumberOf id.now (rows_of (found_of matches.now)) n → ⊥ }
 {
     let number = matches.get_one::<u32>(id)?;
-    Some(u64::from(number))
+    Ranged::new(u64::from(number))
 }
 
 // Whether an option without a value is given.

@@ -201,18 +201,10 @@ pub(crate) fn format<'a>(alloc: Global) -> Result<Command<'a>, AllocError>
     ensures { IsCommand format_line result }
 {
     let about = "Makes a store without devices, in a new file";
-    let file = word(
-        alloc,
-        "file",
-        "FILE",
-        "The file to make; it must not exist yet",
-    );
-    let net_id = option(
-        alloc,
-        "netid",
-        "HEX",
-        "The network's NetID: 6 upper-case hexadecimal digits, from 000000 to 00003F",
-    );
+    let help = "The file to make; it must not exist yet";
+    let file = word(alloc, "file", "FILE", help);
+    let help = "The network's NetID: 6 upper-case hexadecimal digits, from 000000 to 00003F";
+    let net_id = option(alloc, "netid", "HEX", help);
     let format = file_command(alloc, "format", about, FORMAT_EXAMPLE, file);
     with_arg(with_arg(format, net_id), slots(alloc))
 }
@@ -228,14 +220,8 @@ fn serve<'a>(alloc: Global) -> Result<Command<'a>, AllocError>
     ensures { IsCommand serve_line result }
 {
     let about = "Serves gateways and applications from a store, until all of their inputs end";
-    let links = number_option(
-        alloc,
-        "links",
-        "N",
-        "The number of links, all of which have to connect: from 1 to 80",
-        1,
-        80,
-    );
+    let help = "The number of links, all of which have to connect: from 1 to 80";
+    let links = number_option(alloc, "links", "N", help, 1, 80);
     let serve = file_command(alloc, "serve", about, SERVE_EXAMPLE, store_file(alloc));
     with_arg(with_arg(serve, listen(alloc)), links)
 }
@@ -244,20 +230,10 @@ fn run_command<'a>(alloc: Global) -> Result<Command<'a>, AllocError>
     ensures { IsCommand run_line result }
 {
     let about = "Serves gateways and applications that come and go, until `lnsd stop`";
-    let links = number_option(
-        alloc,
-        "links",
-        "N",
-        "The largest number of links at a time: from 1 to 96",
-        1,
-        96,
-    );
-    let names = option(
-        alloc,
-        "names",
-        "FILE",
-        "The gateways and applications that may connect, a name a line",
-    );
+    let help = "The largest number of links at a time: from 1 to 96";
+    let links = number_option(alloc, "links", "N", help, 1, 96);
+    let help = "The gateways and applications that may connect, a name a line";
+    let names = option(alloc, "names", "FILE", help);
     let run = file_command(alloc, "run", about, RUN_EXAMPLE, store_file(alloc));
     let run = with_arg(with_arg(run, listen(alloc)), or_else(links, "96"));
     with_arg(run, left_out(names))
@@ -296,12 +272,8 @@ fn copy_command<'a>(alloc: Global) -> Result<Command<'a>, AllocError>
     ensures { IsCommand copy_line result }
 {
     let about = "Copies a store, which may be served meanwhile, to a new file for `lnsd restore`";
-    let new = word(
-        alloc,
-        "new",
-        "NEW",
-        "The file of the copy, which must not exist yet",
-    );
+    let help = "The file of the copy, which must not exist yet";
+    let new = word(alloc, "new", "NEW", help);
     let copy = file_command(alloc, "copy", about, COPY_EXAMPLE, store_file(alloc));
     with_arg(copy, new)
 }
@@ -310,14 +282,8 @@ fn status<'a>(alloc: Global) -> Result<Command<'a>, AllocError>
     ensures { IsCommand status_line result }
 {
     let about = "Prints the status of the server that runs on a store, a name and a value a line";
-    let wait = number_option(
-        alloc,
-        "wait",
-        "S",
-        "How many seconds to wait for the server: from 0 to 3600",
-        0,
-        3600,
-    );
+    let help = "How many seconds to wait for the server: from 0 to 3600";
+    let wait = number_option(alloc, "wait", "S", help, 0, 3600);
     let status = file_command(alloc, "status", about, STATUS_EXAMPLE, store_file(alloc));
     with_arg(status, or_else(wait, "0"))
 }
@@ -326,18 +292,10 @@ fn restore<'a>(alloc: Global) -> Result<Command<'a>, AllocError>
     ensures { IsCommand restore_line result }
 {
     let about = "Restores an older copy of a lost store to a new file";
-    let copy = word(
-        alloc,
-        "file",
-        "OLD",
-        "The file of the copy, which isn't changed",
-    );
-    let new = word(
-        alloc,
-        "new",
-        "NEW",
-        "The file of the new store, which must not exist yet",
-    );
+    let help = "The file of the copy, which isn't changed";
+    let copy = word(alloc, "file", "OLD", help);
+    let help = "The file of the new store, which must not exist yet";
+    let new = word(alloc, "new", "NEW", help);
     let restore = file_command(alloc, "restore", about, RESTORE_EXAMPLE, copy);
     let restore = with_arg(with_arg(restore, new), or_else(grants(alloc), "1024"));
     with_arg(restore, left_out(above(alloc)))
@@ -357,18 +315,10 @@ pub(crate) fn import_command<'a>(alloc: Global) -> Result<Command<'a>, AllocErro
     ensures { IsCommand import_line result }
 {
     let about = "Brings the devices of a CSV list into a store that isn't being served";
-    let file = word(
-        alloc,
-        "file",
-        "FILE",
-        "The file of the store; with --netid and --slots a file to make",
-    );
-    let net_id = option(
-        alloc,
-        "netid",
-        "HEX",
-        "The NetID of a new store: 6 upper-case hexadecimal digits, from 000000 to 00003F",
-    );
+    let help = "The file of the store; with --netid and --slots a file to make";
+    let file = word(alloc, "file", "FILE", help);
+    let help = "The NetID of a new store: 6 upper-case hexadecimal digits, from 000000 to 00003F";
+    let net_id = option(alloc, "netid", "HEX", help);
     let import = file_command(alloc, "import", about, IMPORT_EXAMPLE, list_file(alloc));
     let import = with_arg(with_arg(import, file), left_out(net_id));
     with_arg(with_arg(import, left_out(slots(alloc))), dry_run(alloc))
@@ -395,18 +345,10 @@ fn grow_command<'a>(alloc: Global) -> Result<Command<'a>, AllocError>
     ensures { IsCommand grow_line result }
 {
     let about = "Makes a store with more slots in a new file, and closes the old one";
-    let old = word(
-        alloc,
-        "file",
-        "OLD",
-        "The file of the store, which is no store after that",
-    );
-    let new = word(
-        alloc,
-        "new",
-        "NEW",
-        "The file of the larger store, which must not exist yet",
-    );
+    let help = "The file of the store, which is no store after that";
+    let old = word(alloc, "file", "OLD", help);
+    let help = "The file of the larger store, which must not exist yet";
+    let new = word(alloc, "new", "NEW", help);
     let grow = file_command(alloc, "grow", about, GROW_EXAMPLE, old);
     with_arg(with_arg(with_arg(grow, new), slots(alloc)), dry_run(alloc))
 }
@@ -422,38 +364,25 @@ fn dev_euis<'a>(alloc: Global) -> Arg<'a>
     ensures rule { rule_of result ≡ several_words (codes "deveui") }
     ensures local { result.global ≡ false }
 {
-    word(
-        alloc,
-        "deveui",
-        "DEVEUI",
-        "A device: 16 upper-case hexadecimal digits",
-    )
-    .action(ArgAction::Append)
+    let help = "A device: 16 upper-case hexadecimal digits";
+    word(alloc, "deveui", "DEVEUI", help).action(ArgAction::Append)
 }
 
 fn slots<'a>(alloc: Global) -> Arg<'a>
     ensures rule { rule_of result ≡ slots_option }
     ensures local { result.global ≡ false }
 {
-    number_option(
-        alloc,
-        "slots",
-        "N",
-        "The number of slots for devices, from 1 to 4096; `lnsd grow` makes a store with more",
-        1,
-        4096,
-    )
+    let help =
+        "The number of slots for devices, from 1 to 4096; `lnsd grow` makes a store with more";
+    number_option(alloc, "slots", "N", help, 1, 4096)
 }
 
 fn dry_run<'a>(alloc: Global) -> Arg<'a>
     ensures rule { rule_of result ≡ flag_option (codes "dry-run") }
     ensures local { result.global ≡ false }
 {
-    flag_option(
-        alloc,
-        "dry-run",
-        "Prints what it would do, and writes nothing",
-    )
+    let help = "Prints what it would do, and writes nothing";
+    flag_option(alloc, "dry-run", help)
 }
 
 // An option without a value.
@@ -471,28 +400,19 @@ fn grants<'a>(alloc: Global) -> Arg<'a>
     ensures rule { rule_of result ≡ range_option (codes "grants") (pos 1) (pos 65536) }
     ensures local { result.global ≡ false }
 {
-    number_option(
-        alloc,
-        "grants",
-        "N",
-        "How far to raise the JoinNonces: more than the joins of a device since the copy or \
-            since the last restore on record, from 1 to 65536",
-        1,
-        65_536,
-    )
+    let help = "How far to raise the JoinNonces: more than the joins of a device since the copy or \
+        since the last restore on record, from 1 to 65536";
+    number_option(alloc, "grants", "N", help, 1, 65_536)
 }
 
 fn above<'a>(alloc: Global) -> Arg<'a>
     ensures rule { rule_of result ≡ option (codes "above") }
     ensures local { result.global ≡ false }
 {
-    option(
-        alloc,
-        "above",
-        "FILE",
+    let help =
         "A CSV file of JoinNonces that were granted (DevEUI,JoinNonce), as readings prints it; \
-            the devices go on above them, too",
-    )
+        the devices go on above them, too";
+    option(alloc, "above", "FILE", help)
 }
 
 fn store_file<'a>(alloc: Global) -> Arg<'a>
@@ -506,12 +426,9 @@ fn listen<'a>(alloc: Global) -> Arg<'a>
     ensures rule { rule_of result ≡ option (codes "listen") }
     ensures local { result.global ≡ false }
 {
-    option(
-        alloc,
-        "listen",
-        "ADDR",
-        "The address that links connect to: an IP address or a host name, a colon and a TCP port",
-    )
+    let help =
+        "The address that links connect to: an IP address or a host name, a colon and a TCP port";
+    option(alloc, "listen", "ADDR", help)
 }
 
 // An option that may be left out, and has this value by default.

@@ -4,7 +4,7 @@ ghost use Rattle.clap.specs.Words.{fault_of, kind_of, subcommand_of, subcommand_
 ghost use Rattle.command_words.specs.Asked.{AskFor, HasNoMode, IsModeOf, IsToldOf, IsUsageOf};
 ghost use Rattle.command_words.specs.CommandLine.{lnsd_line};
 
-use crate::asked::asked_mode;
+use crate::asked::Given;
 use crate::line::{format, import_command, lnsd, retire_command};
 use crate::mode::{Mode, Usage};
 use clap::error::ErrorKind;
@@ -101,5 +101,5 @@ fn mode_of<'a>(alloc: Global, matches: &ArgMatches<'a>) -> Result<Option<Mode<'a
     let Some(file) = matches.get_str("file") else {
         return Ok(None);
     };
-    asked_mode(alloc, name, file, matches)
+    Given { file, matches }.mode(alloc, name)
 }

@@ -123,13 +123,13 @@ fn a_table_admits_what_was_made_of_it(rt: HostRuntime) {
 // left of its decisions.
 fn restored(alloc: Global, batch: Batch, end: u64) -> Result<(Table, usize), Refusal> {
     let mut table = new_table(alloc, 64)?;
-    let Some(last) = table.continuation_end_behind(&[], 0, batch.as_slice()) else {
+    let Some(last) = table.continuation_end_after(&[], 0, batch.as_slice()) else {
         return Err(Refusal::OutOfStep);
     };
     if last != end {
         return Err(Refusal::Damaged);
     }
-    let placed = table.place_all(batch, PlacedBatch::new(alloc)?);
+    let placed = table.set_all(batch, PlacedBatch::new(alloc)?);
     let mut effects: usize = 0;
     for decision in placed.into_vec() {
         effects = effects.saturating_add(decision.into_effects().as_slice().len());

@@ -77,7 +77,7 @@ pub(crate) fn with_changed_devices(
     for (slot, device) in table.devices().iter().enumerate() {
         let next = changed_copy(alloc, device, rows)?;
         prove!((slot as u64) < most);
-        changed.place(slot as u16, next);
+        changed.set_device(slot as u16, next);
     }
     Ok(changed)
 }

@@ -60,5 +60,5 @@ fn import(alloc: Global, table: &mut Table, importing: &Importing)
 {
     let _most = table.slots().get();
     let slot = table.devices().len() as u16;
-    table.place(slot, imported_device(alloc, importing));
+    table.set_device(slot, imported_device(alloc, importing));
 }

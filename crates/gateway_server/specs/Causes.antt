@@ -64,6 +64,12 @@ has_cause_line (mode.List file) = false
 has_cause_line (mode.Serve file listen links) = false
 has_cause_line other = true
 
+-- the fault of a file of names that can't be read, or of a list that isn't taken
+abbrev pub IsOfNames : Fault → Type 0
+IsOfNames (fault.NamesFile cause) = Unit
+IsOfNames (fault.Names names) = Unit
+IsOfNames other = ⊥
+
 -- the fault of an address that can't be listened on
 abbrev pub IsListen : Fault → Type 0
 IsListen (fault.Listen cause) = Unit

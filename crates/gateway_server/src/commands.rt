@@ -139,10 +139,11 @@ pub trait Commands {
 pub struct ServerCommands;
 
 impl Commands for ServerCommands {
-    ghost use Rattle.std.specs.Prelude.{⊤};
+    ghost use Rattle.gateway_server.specs.Printed.{EndsPrinting};
 
-    // Files and sockets have no model here: tests show their results.
-    ghost ends = { λ _ _ _ _. ⊤ };
+    // Files and sockets have no model here. Tests show whose tables and counts these are, and why
+    // commands fail.
+    ghost ends = { λ _ m outcome _. EndsPrinting m outcome };
 
     fn format<R: Files<File = File>>(
         &mut self,

@@ -60,10 +60,7 @@ fn named(alloc: Global, name: &str) -> Result<RealFile, Fault>
     ensures { MatchResult result (λ file. string_bytes file.0 ≡ name.now)
         (λ fault. fault ≡ Fault.Refused Refusal.OutOfMemory) }
 {
-    match String::from_str(alloc, name) {
-        Ok(name) => Ok(RealFile(name)),
-        Err(_) => Err(Fault::Refused(Refusal::OutOfMemory)),
-    }
+    Ok(RealFile(String::from_str(alloc, name)?))
 }
 
 /// Where the control socket of the store in a file is.
@@ -73,10 +70,7 @@ pub(crate) fn path_of(alloc: Global, file: &RealFile) -> Result<ControlPath, Fau
         (λ fault. fault ≡ Fault.Refused Refusal.OutOfMemory) }
 {
     let name = file.0.as_str();
-    match format!(in alloc; "{name}.control") {
-        Ok(path) => Ok(ControlPath(path)),
-        Err(_) => Err(Fault::Refused(Refusal::OutOfMemory)),
-    }
+    Ok(ControlPath(format!(in alloc; "{name}.control")?))
 }
 
 /// Listens at a control socket. An existing socket is left over, since no other process has the
@@ -99,15 +93,10 @@ pub(crate) fn remove<R: Files<File = File>>(rt: &R, path: &ControlPath) {
     let _ = fs::remove_file(rt, path.0.as_str());
 }
 
-// A connection to the server at a control socket.
-fn connect<R: Net>(rt: &R, path: &ControlPath) -> Result<UnixStream, Fault> {
-    UnixStream::connect(rt, path.0.as_str()).map_err(|error| fault_of_connecting(error.kind()))
-}
-
 // A connection to the server that runs on the store in a file.
 fn connect_to<R: Files + Net>(rt: &R, alloc: Global, file: &str) -> Result<UnixStream, Fault> {
     let path = path_of(alloc, &real_file(rt, alloc, file)?)?;
-    connect(rt, &path)
+    UnixStream::connect(rt, path.0.as_str()).map_err(|error| fault_of_connecting(error.kind()))
 }
 
 // Why a connection failed.
@@ -220,14 +209,11 @@ pub(crate) fn watch<R: Files + Net, O: Write>(
     writeln!(stream, "{word}").map_err(|_| Fault::BrokenOff)?;
     let mut first = [0u8; WATCHING.len()];
     let count = fill_front(&mut stream, &mut first);
-    if first.get(..count) != Some(WATCHING.as_bytes()) {
-        return Err(if first.get(..count) == Some(BUSY.as_bytes()) {
-            Fault::Busy
-        } else {
-            Fault::BrokenOff
-        });
+    match first.get(..count) {
+        Some(line) if line == WATCHING.as_bytes() => Ok(pass_on(&mut stream, out)),
+        Some(line) if line == BUSY.as_bytes() => Err(Fault::Busy),
+        _ => Err(Fault::BrokenOff),
     }
-    Ok(pass_on(&mut stream, out))
 }
 
 // Fills the buffer with what comes. Returns the length.

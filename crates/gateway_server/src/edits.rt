@@ -2,6 +2,7 @@
 ghost use Rattle.std.specs.Prelude.{◌≡◌, IfOk, MatchResult, string_bytes};
 ghost use Rattle.lnsd_operator.specs.Counted.{count_line};
 ghost use Rattle.gateway_server.specs.Lines.{counts_text};
+ghost use Rattle.gateway_server.specs.Printed.{PrintsOfEdit, keys_shown};
 
 use crate::Fault;
 use command_words::Edit;
@@ -20,7 +21,9 @@ pub(crate) fn edit<R: Files<File = File>>(
     rt: &R,
     alloc: Global,
     edit: &Edit<'_>,
-) -> Result<String, Fault> {
+) -> Result<String, Fault>
+    ensures { IfOk result (λ text. PrintsOfEdit edit.now (string_bytes text)) }
+{
     let counts = match *edit {
         Edit::Export { file, keys } => {
             let listed = export_devices(rt, alloc, file, shown(keys))?;
@@ -54,7 +57,9 @@ pub(crate) fn edit<R: Files<File = File>>(
     counts_text(alloc, &counts)
 }
 
-fn shown(keys: bool) -> AppKeys {
+fn shown(keys: bool) -> AppKeys
+    ensures { result ≡ keys_shown keys }
+{
     if keys {
         AppKeys::Shown
     } else {

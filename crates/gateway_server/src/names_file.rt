@@ -1,4 +1,7 @@
 // The file of the names that may greet.
+ghost use Rattle.std.specs.Prelude.{IfErr};
+ghost use Rattle.gateway_server.specs.Causes.{IsOfNames};
+
 use crate::Fault;
 use lnsd_life::{NameList, NameListFault, NameSource, PlaceCount};
 use lnsd_links::read_names;
@@ -22,7 +25,9 @@ pub(crate) struct NamesFile<'a, R> {
 
 impl<'a, R: Files<File = File>> NamesFile<'a, R> {
     /// Reads the file, as a life with this number of places does. A fault has its cause.
-    pub(crate) fn check(&self, places: PlaceCount) -> Result<(), Fault> {
+    pub(crate) fn check(&self, places: PlaceCount) -> Result<(), Fault>
+        ensures { IfErr result IsOfNames }
+    {
         match read_names(self, places.get() as usize) {
             Ok(_) => Ok(()),
             Err(NameListFault::File) => Err(Fault::NamesFile(self.cause())),
@@ -58,6 +63,11 @@ impl<'a, R: Files<File = File>> NamesFile<'a, R> {
 }
 
 impl<'a, R: Files<File = File>> NameSource for NamesFile<'a, R> {
+    ghost use Rattle.gateway_server.specs.NamesFile.{IsOfSomeText};
+
+    // A file's content has no model here. Tests show whose list it is.
+    ghost gives = { λ _ result. IsOfSomeText result };
+
     fn read(&self) -> Result<NameList, NameListFault> {
         match self.text() {
             Ok(text) => NameList::read(self.alloc, text.as_str()),

@@ -1,5 +1,7 @@
 // Serving a store in a file.
-ghost use Rattle.std.specs.Prelude.{◌≡◌, IfOk};
+ghost use Rattle.std.specs.Prelude.{◌≡◌, true, IfErr, IfOk, option_map};
+ghost use Rattle.gateway_server.specs.Causes.{IsOfNames};
+ghost use Rattle.gateway_server.specs.Printed.{asks_to_serve};
 
 use crate::Fault;
 use crate::causes::ListenCause;
@@ -29,6 +31,7 @@ use std::thread::Threads;
 pub struct FinishedLife<'a> {
     mode: Mode<'a>,
     report: LifeReport,
+    ghost serves: { asks_to_serve mode ≡ true },
 }
 
 impl<'a> FinishedLife<'a> {
@@ -75,6 +78,7 @@ fn finished<'a>(
     mode: Mode<'a>,
     end: Result<LifeReport, ServeFault>,
 ) -> Result<FinishedLife<'a>, Fault>
+    requires { asks_to_serve mode ≡ true }
     ensures { IfOk result (λ life. life.mode ≡ mode.entry) }
 {
     match end {
@@ -108,12 +112,15 @@ where
     let times = DiskTimes::new();
     let store = open_timed(rt, alloc, file, &times)?;
     let Sockets {
-        listener,
-        address,
-        clock,
+        listening,
         path,
         control,
     } = open_up(rt, alloc, file, listen)?;
+    let Listening {
+        listener,
+        address,
+        clock,
+    } = listening;
     let mut notice = ListeningNotice { out, address };
     let ServedLife {
         store,
@@ -145,13 +152,17 @@ where
     ended
 }
 
-// The file of the names that may greet, if there is one, after its list was taken once.
+// The file of the names that may greet, if one is given. Its list is read once here, and a list
+// that a life wouldn't take is refused.
 fn source_of<'a, R: Files<File = File>>(
     rt: &'a R,
     alloc: Global,
     names: Option<&'a str>,
     places: PlaceCount,
-) -> Result<Option<NamesFile<'a, R>>, Fault> {
+) -> Result<Option<NamesFile<'a, R>>, Fault>
+    ensures source { IfOk result (λ source. option_map (λ file. file.path) source ≡ names.entry) }
+    ensures fault { IfErr result IsOfNames }
+{
     let Some(path) = names else {
         return Ok(None);
     };
@@ -172,14 +183,8 @@ fn listen_at<'x, R>(rt: &'x R, listen: &str) -> Result<Listening<&'x R>, Fault>
 where
     R: Net<Listener = TcpListener, Stream = TcpStream> + Clock,
 {
-    let listener = match TcpListener::bind(rt, listen) {
-        Ok(listener) => listener,
-        Err(error) => return Err(cannot_listen(&error)),
-    };
-    let address = match listener.local_addr() {
-        Ok(address) => address,
-        Err(error) => return Err(cannot_listen(&error)),
-    };
+    let listener = TcpListener::bind(rt, listen).map_err(cannot_listen)?;
+    let address = listener.local_addr().map_err(cannot_listen)?;
     let Ok(clock) = Monotonic::start(rt) else {
         return Err(Fault::Clock);
     };
@@ -190,7 +195,7 @@ where
     })
 }
 
-fn cannot_listen(error: &io::Error) -> Fault {
+fn cannot_listen(error: io::Error) -> Fault {
     let is_system = error.raw_os_error().is_some();
     Fault::Listen(ListenCause::of(error.kind(), is_system))
 }
@@ -198,9 +203,7 @@ fn cannot_listen(error: &io::Error) -> Fault {
 // Where links and operators come in, and the clock of the life.
 #[derive(Drop)]
 struct Sockets<C: Clock> {
-    listener: TcpListener,
-    address: SocketAddr,
-    clock: Monotonic<C>,
+    listening: Listening<C>,
     path: ControlPath,
     control: UnixListener,
 }
@@ -215,17 +218,11 @@ fn open_up<'x, R>(
 where
     R: Files<File = File> + Net<Listener = TcpListener, Stream = TcpStream> + Clock,
 {
-    let Listening {
-        listener,
-        address,
-        clock,
-    } = listen_at(rt, listen)?;
+    let listening = listen_at(rt, listen)?;
     let path = path_of(alloc, &real_file(rt, alloc, file)?)?;
     let control = bind_control(rt, &path)?;
     Ok(Sockets {
-        listener,
-        address,
-        clock,
+        listening,
         path,
         control,
     })

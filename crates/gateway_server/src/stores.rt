@@ -14,7 +14,7 @@ use std::alloc::Global;
 use std::fs::File;
 use std::rt::{Clock, Files};
 use store::{Store, format_back, open};
-use store_files::{FileCause, FileFault, create, remove_new};
+use store_files::{FileFault, create, open_disk, remove_new};
 
 /// The store of a file, and what is printed about it.
 #[derive(Drop)]
@@ -76,10 +76,8 @@ pub(crate) fn open_timed<'x, R: Files<File = File> + Clock>(
     file: &str,
     times: &'x DiskTimes,
 ) -> Result<Store<TimedDisk<'x, FileDisk, &'x R>>, Fault> {
-    match FileDisk::open(rt, file) {
-        Ok(disk) => Ok(open(alloc, TimedDisk::new(disk, rt, times))?),
-        Err(error) => Err(Fault::File(FileCause::of_opening(error.kind()))),
-    }
+    let disk = open_disk(rt, file)?;
+    Ok(open(alloc, TimedDisk::new(disk, rt, times))?)
 }
 
 /// Opens the store in a file.
@@ -88,8 +86,5 @@ pub(crate) fn open_store<R: Files<File = File>>(
     alloc: Global,
     file: &str,
 ) -> Result<Store<FileDisk>, Fault> {
-    match FileDisk::open(rt, file) {
-        Ok(disk) => Ok(open(alloc, disk)?),
-        Err(error) => Err(Fault::File(FileCause::of_opening(error.kind()))),
-    }
+    Ok(open(alloc, open_disk(rt, file)?)?)
 }

@@ -1,5 +1,5 @@
 -- How long lines are.
-use Rattle.std.proofs.Common.{◌≡◌, ◌≤◌, ◌+◌, ◌*◌, ◌∷◌, ℕ, List, [], length, length-append, arith}
+use Rattle.std.proofs.Common.{◌≡◌, ◌≤◌, ◌+◌, ◌*◌, ◌∷◌, ℕ, List, [], length, length-append, arith, max, refl}
 use Rattle.std.specs.Int.{w64, to_be_bytes}
 use Rattle.std.specs.List.{join_with_byte}
 use Rattle.hex.specs.Hex.{upper_digits}
@@ -16,6 +16,11 @@ pub length-field : (bytes : List ℕ) → length (field_text bytes) ≤ 2 * leng
 unfolding field_text hex_text
 length-field [] = omega arith
 length-field (byte ∷ bytes) = omega (arith, length-encode_with upper_digits (byte ∷ bytes))
+
+pub length_of_field : (bytes : List ℕ) → length (field_text bytes) ≡ max (2 * length bytes) 1
+unfolding field_text hex_text
+length_of_field [] = refl
+length_of_field (byte ∷ bytes) = omega (arith, length-encode_with upper_digits (byte ∷ bytes))
 
 -- the letters of each word, with the space after it
 abbrev pub letters : List (List ℕ) → ℕ

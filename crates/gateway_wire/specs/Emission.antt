@@ -8,6 +8,7 @@ use Rattle.gateway_wire.specs.declared.emission.Emission.{Emission}
 use Rattle.gateway_wire.specs.declared.emission.Emission.TheVariants.{Gateway, Application}
 use Rattle.gateway_wire.specs.declared.recipient.Recipient.{Recipient}
 use Rattle.gateway_wire.specs.declared.recipient.Recipient.TheVariants as recipients
+use Rattle.gateway_wire.specs.Answer.{answer_frame}
 use Rattle.gateway_wire.specs.AppLine.{up_line, report_line}
 use Rattle.gateway_wire.specs.Downlink.{downlink_frame}
 
@@ -48,3 +49,11 @@ app_line effect = line_in (emission effect)
 -- the frame that an effect sends to a gateway
 abbrev pub gateway_bytes : Effect → Option (List ℕ)
 gateway_bytes effect = frame_in (emission effect)
+
+-- the frame of the wire that leaves
+abbrev pub emission_frame : Emission → List ℕ
+emission_frame (Application application line) = answer_frame line
+emission_frame (Gateway gateway frame) = frame
+
+abbrev pub effect_frame : Effect → List ℕ
+effect_frame effect = emission_frame (emission effect)

@@ -5,3 +5,5 @@ pub mod Request
 pub mod DeviceList
 pub mod Finding
 pub mod Answer
+pub mod Put
+pub mod UpLine

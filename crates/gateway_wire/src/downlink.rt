@@ -1,6 +1,7 @@
 // Downlinks as frames of the wire.
-ghost use Rattle.std.specs.Prelude.{◌≡◌, ◌≤◌, IfOk};
+ghost use Rattle.std.specs.Prelude.{◌≡◌, ◌≤◌, length, IfOk, IsOk};
 ghost use Rattle.gateway_wire.specs.Downlink.{downlink_frame, rx2_delay};
+ghost use Rattle.gateway_wire.specs.Put.{IsPut};
 
 use devices::{Downlink, ReceiveWindows};
 use lw_types::{Bytes, LONGEST_FRAME};
@@ -36,6 +37,19 @@ pub(crate) fn downlink_frame(alloc: Global, downlink: &Downlink) -> Result<WireF
     bytes.extend_from_slice(phy_payload)?;
     let frame: Result<_, _> = WireFrame::new(bytes);
     Ok(frame.unwrap())
+}
+
+/// Appends the frame of a downlink, as [`downlink_frame`] makes it.
+pub(crate) fn put_downlink(
+    alloc: Global,
+    downlink: &Downlink,
+    bytes: &mut Vec<u8>,
+) -> Result<(), AllocError>
+    ensures put { IsPut (downlink_frame downlink.now) bytes.old.items result bytes.new.items }
+    ensures short { IsOk result → length (downlink_frame downlink.now) ≤ LONGEST_WIRE_FRAME }
+{
+    let frame = downlink_frame(alloc, downlink)?;
+    bytes.extend_from_slice(frame.as_slice())
 }
 
 // The delay of RX2 in seconds, one above that of RX1 (RECEIVE_DELAY2); 0 if RX2 isn't to be used.

@@ -1,15 +1,19 @@
 // What leaves the network because of an effect.
-ghost use Rattle.std.specs.Prelude.{◌≡◌, IsSome, MatchBool, MatchResult, None};
+ghost use Rattle.std.specs.Prelude.{◌≡◌, IsOk, IsSome, MatchBool, MatchResult, None};
 ghost use Rattle.lw_types.specs.declared.refusal.Refusal.TheVariants.{OutOfMemory};
-ghost use Rattle.gateway_wire.specs.Emission.{app_line, gateway_bytes};
+ghost use Rattle.gateway_wire.specs.Emission.{FitsFrame, app_line, effect_frame, emission};
+ghost use Rattle.gateway_wire.specs.Emission.{gateway_bytes};
+ghost use Rattle.gateway_wire.specs.Put.{IsPut};
 
 use crate::WireFrame;
-use crate::downlink::downlink_frame;
-use crate::report::{UpFields, report_line, up_line};
+use crate::answer::put_answer;
+use crate::downlink::{downlink_frame, put_downlink};
+use crate::report::report_line;
+use crate::uplink::{UpFields, put_uplink, up_line};
 use devices::{Application, Effect};
 use link_messages::Line;
 use lw_types::{Eui, Refusal};
-use std::alloc::Global;
+use std::alloc::{AllocError, Global};
 
 /// What leaves the network because of an effect, and on whose link.
 #[derive(Clone, PartialEq, Eq, Drop)]
@@ -75,6 +79,47 @@ impl Emission {
                     frame: downlink_frame(alloc, downlink)?,
                 })
             }
+        }
+    }
+}
+
+/// Appends the frame that this effect sends, which fits the wire. Room for the whole frame is
+/// reserved at once. If memory runs out, the bytes that were there stay, and others may come after
+/// them.
+pub fn put_effect(alloc: Global, effect: &Effect, bytes: &mut Vec<u8>) -> Result<(), AllocError>
+    ensures put { IsPut (effect_frame effect.now) bytes.old.items result bytes.new.items }
+    ensures fits { IsOk result → FitsFrame (emission effect.now) }
+{
+    match effect {
+        Effect::Forward {
+            session,
+            counter,
+            port,
+            payload,
+            copies,
+            best,
+            ..
+        } => {
+            let up = UpFields {
+                session,
+                counter: *counter,
+                port: *port,
+                payload,
+                copies: *copies,
+                best,
+            };
+            put_uplink(alloc, &up, bytes)
+        }
+        Effect::Report {
+            dev_eui,
+            report,
+            ..
+        } => {
+            let line = report_line(alloc, *dev_eui, report)?;
+            put_answer(line.as_str().as_bytes(), bytes)
+        }
+        Effect::Accept { downlink, .. } | Effect::Down { downlink, .. } => {
+            put_downlink(alloc, downlink, bytes)
         }
     }
 }

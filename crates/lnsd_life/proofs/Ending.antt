@@ -133,21 +133,21 @@ module _ {D F C V : Type 0} (disk : Ghosts D) (gives : FeedGives F) (effects : V
         ]
 
     -- after chains that ended well
-    refused_behind : (old s new : Store D disk) (e : Refusal) → NoneFailed disk.failures disk.outlook old s → IsRefused disk s new e → IsRefused disk old new e
-    refused_behind old s new DeviceFailed first last =
+    refused_after : (old s new : Store D disk) (e : Refusal) → NoneFailed disk.failures disk.outlook old s → IsRefused disk s new e → IsRefused disk old new e
+    refused_after old s new DeviceFailed first last =
         (calls_then {T = Unit {0}} disk.failures disk.outlook old s new (Err DeviceFailed) first (refl, last)).1
-    refused_behind old s new OutOfMemory first none = none_then disk.failures disk.outlook old s new first none
-    refused_behind old s new OutOfStep first none = none_then disk.failures disk.outlook old s new first none
-    refused_behind old s new Failed first (none, had) = (none_then disk.failures disk.outlook old s new first none, sym first.failed ∙ had)
-    refused_behind old s new Damaged first (none, last) = (none_then disk.failures disk.outlook old s new first none, last)
-    refused_behind old s new e first never = absurd never
+    refused_after old s new OutOfMemory first none = none_then disk.failures disk.outlook old s new first none
+    refused_after old s new OutOfStep first none = none_then disk.failures disk.outlook old s new first none
+    refused_after old s new Failed first (none, had) = (none_then disk.failures disk.outlook old s new first none, sym first.failed ∙ had)
+    refused_after old s new Damaged first (none, last) = (none_then disk.failures disk.outlook old s new first none, last)
+    refused_after old s new e first never = absurd never
 
     all_refused : (old new : Store D disk) (p q : F) (x y : C) (counts : List ℕ) (e : Refusal)
         → MakeChains disk gives effects call most old new p q x y (answers_of counts (Err e)) → IsRefused disk old new e
     all_refused old new p q x y [] e (s, (f, (o, (chain, (same, rest))))) =
         subst (λ (t : Store D disk). IsRefused disk old t e) (sym same) (one_refused old s p f x o e chain)
     all_refused old new p q x y (n ∷ counts) e (s, (f, (o, (chain, rest)))) =
-        refused_behind old s new e chain.calls (all_refused s new f q o y counts e rest)
+        refused_after old s new e chain.calls (all_refused s new f q o y counts e rest)
 
   pub refused_by : (old new : Store D disk) (p q : F) (x y : C) (counts : List ℕ) (result : Result (Unit {0}) Refusal)
       → MakeChains disk gives effects call most old new p q x y (answers_of counts result)
@@ -172,22 +172,22 @@ ended_well (Ok done) (Err fault) holds refused h = tt
 ended_well (Err e) report holds refused h = subst (λ r. OnOk r holds) (sym refused) tt
 
 -- a life that gives a report committed what the report says
-pub told_committed : (ended : Result ℕ Refusal) (report : Result LifeReport ServeFault) (before after : ℕ)
-    → IfErr ended (λ refusal. report ≡ Err (Refused refusal)) → IfOk ended (λ taken. MatchResult report (λ r. r.made ≡ taken) IsUntold)
-    → IfOk ended (λ taken. after + 0 ≡ before + taken) → IfOk report (λ r. after ≡ before + r.made)
-told_committed (Ok taken) (Ok report) before after refused told committed = omega (arith, told, committed)
-told_committed (Ok taken) (Err fault) before after refused told committed = tt
-told_committed (Err e) report before after refused told committed =
+pub told_committed : (ended : Result (Unit {0}) Refusal) (report : Result LifeReport ServeFault) (before after taken : ℕ)
+    → IfErr ended (λ refusal. report ≡ Err (Refused refusal)) → OnOk ended (MatchResult report (λ r. r.made ≡ taken) IsUntold)
+    → OnOk ended (after + 0 ≡ before + taken) → IfOk report (λ r. after ≡ before + r.made)
+told_committed (Ok done) (Ok report) before after taken refused told committed = omega (arith, told, committed)
+told_committed (Ok done) (Err fault) before after taken refused told committed = tt
+told_committed (Err e) report before after taken refused told committed =
     subst (λ r. IfOk r (λ (of : LifeReport). after ≡ before + of.made)) (sym refused) tt
 
--- why there is no report of a life without a list of names
-pub unlisted : (ended : Result ℕ Refusal) (report : Result LifeReport ServeFault)
-    → IfErr ended (λ refusal. report ≡ Err (Refused refusal)) → IfOk ended (λ taken. MatchResult report (λ r. r.made ≡ taken) IsUntold)
+-- why there is no report of a life that has begun
+pub unlisted : (ended : Result (Unit {0}) Refusal) (report : Result LifeReport ServeFault) (taken : ℕ)
+    → IfErr ended (λ refusal. report ≡ Err (Refused refusal)) → OnOk ended (MatchResult report (λ r. r.made ≡ taken) IsUntold)
     → IfErr report IsNotOfNames
-unlisted (Ok taken) (Ok report) refused told = tt
-unlisted (Ok taken) (Err fault) refused (inl is) = subst IsNotOfNames (sym is) tt
-unlisted (Ok taken) (Err fault) refused (inr is) = subst IsNotOfNames (sym is) tt
-unlisted (Err e) report refused told = subst (λ r. IfErr r IsNotOfNames) (sym refused) tt
+unlisted (Ok done) (Ok report) taken refused told = tt
+unlisted (Ok done) (Err fault) taken refused (inl is) = subst IsNotOfNames (sym is) tt
+unlisted (Ok done) (Err fault) taken refused (inr is) = subst IsNotOfNames (sym is) tt
+unlisted (Err e) report taken refused told = subst (λ r. IfErr r IsNotOfNames) (sym refused) tt
 
 module _ {D : Type 0} (disk : Ghosts D) where
   untold : (old new : Store D disk) (fault : ServeFault) → NoneFailed disk.failures disk.outlook old new → IsUntold fault → IsFaultOf disk old new fault
@@ -195,13 +195,13 @@ module _ {D : Type 0} (disk : Ghosts D) where
   untold old new fault none (inr is) = subst (IsFaultOf disk old new) (sym is) none
 
   -- why there is no report
-  pub told_refused : (ended : Result ℕ Refusal) (report : Result LifeReport ServeFault) (old new : Store D disk)
-      → IfErr ended (λ refusal. report ≡ Err (Refused refusal)) → IfOk ended (λ taken. MatchResult report (λ r. r.made ≡ taken) IsUntold)
+  pub told_refused : (ended : Result (Unit {0}) Refusal) (report : Result LifeReport ServeFault) (taken : ℕ) (old new : Store D disk)
+      → IfErr ended (λ refusal. report ≡ Err (Refused refusal)) → OnOk ended (MatchResult report (λ r. r.made ≡ taken) IsUntold)
       → OnOk ended (NoneFailed disk.failures disk.outlook old new) → IfErr ended (IsRefused disk old new)
       → IfErr report (IsFaultOf disk old new)
-  told_refused (Ok taken) (Ok report) old new refused told none why = tt
-  told_refused (Ok taken) (Err fault) old new refused told none why = untold old new fault none told
-  told_refused (Err e) report old new refused told none why = subst (λ r. IfErr r (IsFaultOf disk old new)) (sym refused) why
+  told_refused (Ok done) (Ok report) taken old new refused told none why = tt
+  told_refused (Ok done) (Err fault) taken old new refused told none why = untold old new fault none told
+  told_refused (Err e) report taken old new refused told none why = subst (λ r. IfErr r (IsFaultOf disk old new)) (sym refused) why
 
   -- why a life wasn't begun
   pub unbegun : (store : Store D disk) (fault : ServeFault) → IsOfBeginning fault → IsFaultOf disk store store fault

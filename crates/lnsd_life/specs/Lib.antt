@@ -1,3 +1,4 @@
+pub mod FirstList
 pub mod Marks
 pub mod Rings
 pub mod Served

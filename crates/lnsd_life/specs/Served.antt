@@ -9,6 +9,7 @@ use Rattle.lw_types.specs.declared.refusal.Refusal.TheVariants.{OutOfMemory, Out
 use Rattle.lnsd_life.specs.declared.report.LifeReport.{LifeReport}
 use Rattle.lnsd_operator.specs.declared.fault.ServeFault.{ServeFault}
 use Rattle.lnsd_operator.specs.declared.fault.ServeFault.TheVariants.{Listen, Names, Refused}
+use Rattle.session_core.specs.Core.{CoreState, new_core}
 use Rattle.session_core.specs.Taking.{TakerState}
 use Rattle.sessions.specs.Table.{TableState}
 use Rattle.sessions.specs.declared.decision.Decision.{Decision}
@@ -60,18 +61,20 @@ IsNotOfNames (Refused refusal) = ⊤
 abbrev pub IsUntold : ServeFault → Type 0
 IsUntold fault = (fault ≡ Refused OutOfMemory) ⊎ (fault ≡ Refused OutOfStep)
 
--- What was committed of what was decided. A taker has taken some of the history of a life's
--- decisions, and has seen more of it or all. The decisions that were committed come next in the
--- history, each once and in order. If all ended well, the history has no others as far as it was
--- seen, and this number was taken in all.
-pub record CommitsInOrder (old new : StoreState) (before : TakerState) (result : Result ℕ Refusal)
-    : Type 0 where
-  pub after : TakerState
+-- the core with which a life over this store begins
+abbrev pub first_core : StoreState → CoreState
+first_core store = new_core store.table store.seq
+
+-- What was committed of what was decided. A taker had taken some of the history of a life's
+-- decisions, and by the end `seen` was seen of it. The decisions that were committed come next
+-- after those that had been taken, each once and in order. If all ended well, they are all the rest
+-- of `seen`.
+pub record CommitsInOrder (old new : StoreState) (before : TakerState) (seen : List Decision)
+    (result : Result (Unit {0}) Refusal) : Type 0 where
   pub committed : List Decision
-  pub next : IsPrefix committed (drop before.taken after.seen)
+  pub next : IsPrefix committed (drop before.taken seen)
   pub commits : Commits old new committed
-  pub all : IfOk result (λ taken. (committed ≡ drop before.taken after.seen)
-      × ((after.taken ≡ length after.seen) × (taken ≡ after.taken)))
+  pub all : OnOk result (committed ≡ drop before.taken seen)
 
 -- What a life committed: a beginning of some list of decisions, and all of it if there is a report,
 -- which has the number.
@@ -85,16 +88,17 @@ pub record CommitsHistory (old new : StoreState) (result : Result LifeReport Ser
       (λ report. (committed ≡ history) × (report.made ≡ length history))
 
 -- How a life whose threads ran leaves its store. If the life ended well, no call of the disk
--- failed, and the store's number grew by as many decisions as were taken in it: `before` says what
--- was taken when it began. Otherwise the refusal says why. What was committed comes next in a
--- history of which the taker had seen a part. The lives that led the store here go on.
+-- failed, and the store's number grew by the number of decisions seen, less the `before.taken` that
+-- had been taken when the life began. Otherwise the refusal says why. What was committed comes next
+-- in the history of the life's decisions, of which `seen` was seen. The lives that led the store
+-- here go on.
 pub record IsRun {D : Type 0} (disk : Ghosts D) (old : Store D disk) (before : TakerState)
-    (result : Result ℕ Refusal) (new : Store D disk) : Type 0 where
+    (seen : List Decision) (result : Result (Unit {0}) Refusal) (new : Store D disk) : Type 0 where
   pub healthy : OnOk result (NoneFailed disk.failures disk.outlook old new)
-  pub committed : IfOk result (λ taken. (store_state disk.state new).seq + before.taken
-      ≡ (store_state disk.state old).seq + taken)
+  pub committed : OnOk result ((store_state disk.state new).seq + before.taken
+      ≡ (store_state disk.state old).seq + length seen)
   pub decided : CommitsInOrder (store_state disk.state old) (store_state disk.state new)
-      before result
+      before seen result
   pub refused : IfErr result (IsRefused disk old new)
   pub lives : disk.honest → IsLedOn (store_state disk.state old) (store_state disk.state new)
 

@@ -1,5 +1,5 @@
 // The flusher, which commits what was decided and releases its effects.
-ghost use Rattle.std.specs.Prelude.{◌≡◌, ◌+◌, ℕ, Bool, IsTrue, IfErr, IfOk, List, OnOk, false};
+ghost use Rattle.std.specs.Prelude.{◌≡◌, ◌+◌, ℕ, Bool, IsTrue, IfErr, List, OnOk, false, length};
 ghost use Rattle.std.specs.Prelude.{slice_index_or};
 ghost use Rattle.lnsd_links.specs.declared.names.Directory.{Directory};
 ghost use Rattle.flusher.specs.Calls.{NoneFailed};
@@ -17,7 +17,7 @@ use lnsd_operator::{DiskTimes, Sight};
 use lnsd_threads::LiveServer;
 use lw_types::Refusal;
 use outbox::Outlet;
-use session_core::{Books, Taker};
+use session_core::{Books, History, Taker};
 use std::alloc::Global;
 use std::sync::Wait;
 use store::Store;
@@ -26,10 +26,11 @@ use store::Store;
 const MOST_RINGS: usize = MOST_PLACES as usize + APPLICATIONS;
 
 /// Commits decisions and sends out their effects, until nothing is decided any more and everything
-/// is committed. Then announces to the senders that nothing more comes, and returns how many
-/// decisions were taken. A refusal closes the links, and what waits for them is lost. If it ends
-/// well, no call of the disk failed, and the store's number grew by the number of decisions taken.
-/// What is committed is what was decided: the decisions that come next in the history, in order.
+/// is committed. Then announces to the senders that nothing more comes, and returns the history of
+/// the life's decisions as far as it was seen. A refusal closes the links, and what waits for them
+/// is lost. If it ends well, no call of the disk failed, and the store's number grew by the number
+/// of decisions seen, less those that the taker had taken before. What is committed comes next in
+/// the history, in order.
 pub(crate) fn flush<B: Books, R: Wait, D: Disk>(
     rt: &R,
     alloc: Global,
@@ -38,13 +39,13 @@ pub(crate) fn flush<B: Books, R: Wait, D: Disk>(
     store: &mut Store<D>,
     taker: Taker<B>,
     outlets: Vec<Outlet>,
-) -> Result<u64, Refusal>
-    ensures healthy { OnOk result (NoneFailed D.failures D.outlook store.old store.new) }
-    ensures committed { IfOk result (λ taken. (store_state D.state store.new).seq + taker.taken
-        ≡ (store_state D.state store.old).seq + taken) }
+) -> (History<B>, Result<(), Refusal>)
+    ensures healthy { OnOk result.1 (NoneFailed D.failures D.outlook store.old store.new) }
+    ensures committed { OnOk result.1 ((store_state D.state store.new).seq + taker.taken
+        ≡ (store_state D.state store.old).seq + length result.0) }
     ensures decided { CommitsInOrder (store_state D.state store.old) (store_state D.state store.new)
-        taker result }
-    ensures refused { IfErr result (IsRefused D.Disk store.old store.new) }
+        taker result.0 result.1 }
+    ensures refused { IfErr result.1 (IsRefused D.Disk store.old store.new) }
     ensures lives { D.honest
         → IsLedOn (store_state D.state store.old) (store_state D.state store.new) }
 {
@@ -76,9 +77,10 @@ pub(crate) fn flush<B: Books, R: Wait, D: Disk>(
     }
     finish(outlets);
     server.ring_senders();
-    served?;
-    durable.raise(store.seq());
-    Ok(feed.taker().share())
+    if served.is_ok() {
+        durable.raise(store.seq());
+    }
+    (feed.taker().seen().again(), served)
 }
 
 // The number of the last decision that the flusher has taken.

@@ -12,19 +12,21 @@ use lnsd_threads::{
     Attendant, Closer, Context, Gate, LifeClock, LiveServer, OnBegun, Worker, start,
 };
 use lw_types::Refusal;
-use session_core::{Books, Seat, Taker};
+use session_core::{Books, History, Seat, Taker};
 use std::alloc::Global;
 use std::sync::Wait;
 use std::thread;
 use std::thread::{JoinHandle, Scope, Threads};
 use store::Store;
 
-/// What is left of a life: the store; the number of decisions that were taken and committed, or why
-/// not all were; and the seats that came back, in the order of the links, the closer's last.
+/// What is left of a life: the store; the history of the life's decisions as far as the flusher saw
+/// it; whether all of these were committed, or why not; and the seats that came back, in the order
+/// of the links, the closer's last.
 #[derive(Drop)]
 pub(crate) struct LifeEnd<D: Disk, B: Books> {
     pub(crate) store: Store<D>,
-    pub(crate) result: Result<u64, Refusal>,
+    pub(crate) known: History<B>,
+    pub(crate) result: Result<(), Refusal>,
     pub(crate) seats: Vec<Seat<B>>,
 }
 
@@ -48,13 +50,13 @@ pub(crate) fn run<
     parts: Parts<B>,
     on_begun: &mut N,
 ) -> LifeEnd<D, B>
-    ensures { IsRun D.Disk store taker result.result result.store }
+    ensures { IsRun D.Disk store taker result.known result.result result.store }
 {
     thread::scope(
         thread::scope_env(),
         context.rt,
         move |scope|
-            ensures { IsRun D.Disk store taker result.result result.store }
+            ensures { IsRun D.Disk store taker result.known result.result result.store }
         { run_in(scope, context, server, names, store, taker, parts, on_begun) },
     )
 }
@@ -79,7 +81,7 @@ fn run_in<
     parts: Parts<B>,
     on_begun: &mut N,
 ) -> LifeEnd<D, B>
-    ensures { IsRun D.Disk store taker result.result result.store }
+    ensures { IsRun D.Disk store taker result.known result.result result.store }
 {
     let Parts {
         links,
@@ -99,7 +101,7 @@ fn run_in<
     started.keep_seated(start(scope, name, move || closer.run()));
     started.start_attendants(scope, context, server, names);
     let mut store = store;
-    let result = if started.is_whole {
+    let flushed = if started.is_whole {
         on_begun.begun();
         flush(
             context.rt,
@@ -112,10 +114,12 @@ fn run_in<
         )
     } else {
         server.stop(context.rt);
-        Err(Refusal::OutOfMemory)
+        (taker.seen().again(), Err(Refusal::OutOfMemory))
     };
+    let (known, result) = flushed;
     LifeEnd {
         store,
+        known,
         result,
         seats: started.join(context.rt, context.alloc, server),
     }

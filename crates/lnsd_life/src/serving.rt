@@ -1,16 +1,18 @@
 // One life of a server.
-ghost use Rattle.std.specs.Prelude.{◌≡◌, ◌≢◌, ◌<◌, ◌≤◌, ◌+◌, length, sum, Err, IfErr, IfOk};
-ghost use Rattle.std.specs.Prelude.{ℕ, cond, false, map, slice_get, true, IsErr, IsSomeAnd};
-ghost use Rattle.std.specs.Prelude.{MatchResult, None, Some};
+ghost use Rattle.std.specs.Prelude.{◌≡◌, ◌≢◌, ◌≤◌, ◌+◌, length, sum, Err, IfErr, IfOk, IsOkAnd};
+ghost use Rattle.std.specs.Prelude.{ℕ, cond, map, slice_get, IsOk, IsTrue, MatchResult, None};
+ghost use Rattle.std.specs.Prelude.{OnOk, Option, Some, false, true};
+ghost use Rattle.session_core.specs.History.{HasAllDecisions};
 ghost use Rattle.lnsd_links.specs.declared.door.Entrance.TheVariants.{Filled};
-ghost use Rattle.lnsd_links.specs.Names.{number_of_names};
 ghost use Rattle.lnsd_links.specs.declared.allowance.CopyRate.TheVariants.{PerSecond};
 ghost use Rattle.lnsd_links.specs.declared.link.Link.{Link};
+ghost use Rattle.lnsd_links.specs.declared.name_list.NameList.{NameList};
 ghost use Rattle.lw_types.specs.declared.refusal.Refusal.TheVariants.{OutOfMemory, OutOfStep};
-ghost use Rattle.lnsd_operator.specs.declared.fault.ServeFault.TheVariants.{Refused};
-ghost use Rattle.lnsd_operator.specs.Faults.{IsOfBeginning};
-ghost use Rattle.lnsd_life.specs.Served.{IsNotOfNames, IsServed, IsUntold};
-ghost use Rattle.session_core.specs.Core.{new_core};
+ghost use Rattle.lnsd_operator.specs.declared.fault.NameListFault.{NameListFault};
+ghost use Rattle.lnsd_operator.specs.declared.fault.ServeFault.TheVariants.{Names, Refused};
+ghost use Rattle.lnsd_operator.specs.Faults.{IsOfBeginning, IsOfLinks};
+ghost use Rattle.lnsd_life.specs.FirstList.{IsFirstList, IsListFault};
+ghost use Rattle.lnsd_life.specs.Served.{IsNotOfNames, IsServed, IsUntold, first_core};
 ghost use Rattle.store.specs.State.{store_state};
 
 use crate::parts::Parts;
@@ -25,7 +27,7 @@ use lnsd_links::{
 use lnsd_operator::{ControlSocket, Counts, DiskTimes, ServeFault};
 use lnsd_threads::{Context, Gate, LifeClock, LiveServer, NobodyTold, OnBegun};
 use lw_types::Refusal;
-use session_core::{BlankHistory, Books, Core, Seat, Shared};
+use session_core::{BlankHistory, Books, Core, History, Seat, Shared};
 use std::alloc::Global;
 use std::marker::Brand;
 use std::net::TcpListener;
@@ -86,10 +88,6 @@ pub fn serve_links<
     ensures workers { IfOk result.result
         (λ report. length report.shares.items ≡ links + 1) }
 {
-    let streams = match accept(alloc, listener, links) {
-        Ok(streams) => streams,
-        Err(fault) => return failed(alloc, store, fault),
-    };
     let context = Context {
         rt,
         alloc,
@@ -97,13 +95,7 @@ pub fn serve_links<
         clock,
         times: None,
     };
-    let beginning = Beginning {
-        places: links.get(),
-        entrance: Entrance::Filled(streams),
-        policy: ONCE,
-        names: None,
-        control: None,
-    };
+    let beginning = with_links(alloc, &store, listener, links);
     begin(
         &context,
         None::<&NoNames>,
@@ -169,16 +161,13 @@ pub fn serve_on<
     on_begun: &mut N,
 ) -> ServedLife<D>
     ensures served { IsServed D.Disk store result.result result.store }
+    ensures listed { IfOk result.result
+        (λ report. (list : Option NameList) × IsFirstList S.gives names.entry count list) }
+    ensures unlisted { (fault : NameListFault) → result.result ≡ Err (Names fault)
+        → IsListFault S.gives names.entry count fault }
     ensures workers { IfOk result.result
         (λ report. length report.shares.items ≡ count + 1) }
 {
-    let Ok(door) = Door::new(listener) else {
-        return failed(alloc, store, ServeFault::Listen);
-    };
-    let control = match ControlSocket::new(alloc, control, store.table().slots()) {
-        Ok(control) => control,
-        Err(fault) => return failed(alloc, store, fault),
-    };
     let context = Context {
         rt,
         alloc,
@@ -186,46 +175,102 @@ pub fn serve_on<
         clock,
         times: Some(times),
     };
-    let (policy, list) = match policy_and_names(names, count) {
-        Ok(listed) => listed,
-        Err(fault) => return failed(alloc, store, fault),
-    };
-    let beginning = Beginning {
-        places: count.get(),
-        entrance: Entrance::Open(door),
-        policy,
-        names: list,
-        control: Some(control),
-    };
+    let beginning = with_door(alloc, &store, listener, control, count, names);
     begin(&context, names, store, beginning, on_begun)
 }
 
-// The policy of a life whose links come and go, and the list of the names that may greet, if there
-// is one.
-fn policy_and_names<S: NameSource>(
-    names: Option<&S>,
-    places: PlaceCount,
-) -> Result<(Policy, Option<NameList>), ServeFault>
-    ensures { IfErr result IsOfBeginning }
+// What a life begins with if its links come before it and stay.
+fn with_links<D: Disk>(
+    alloc: Global,
+    store: &Store<D>,
+    listener: TcpListener,
+    count: LinkCount,
+) -> Result<Beginning, ServeFault>
+    ensures core { IfOk result (λ life. life.core ≡ first_core (store_state D.state store.now)) }
+    ensures places { IfOk result (λ life. length life.links.items ≡ count) }
+    ensures names { IfOk result (λ life. life.names ≡ None) }
+    ensures refused { IfErr result IsOfLinks }
 {
-    match names {
-        Some(source) => listed(source, places),
-        None => Ok((anew(None), None)),
+    let streams = accept(alloc, listener, count)?;
+    let (links, core) = places_of(alloc, store, count.get())?;
+    Ok(Beginning {
+        core,
+        links,
+        entrance: Entrance::Filled(streams),
+        policy: ONCE,
+        names: None,
+        control: None,
+    })
+}
+
+// What a life begins with if its links come and go.
+fn with_door<D: Disk, S: NameSource>(
+    alloc: Global,
+    store: &Store<D>,
+    listener: TcpListener,
+    control: UnixListener,
+    places: PlaceCount,
+    source: Option<&S>,
+) -> Result<Beginning, ServeFault>
+    ensures core { IfOk result (λ life. life.core ≡ first_core (store_state D.state store.now)) }
+    ensures places { IfOk result (λ life. length life.links.items ≡ places) }
+    ensures names { IfOk result (λ life. IsFirstList S.gives source.entry places life.names) }
+    ensures refused { IfErr result IsOfBeginning }
+    ensures unlisted { (fault : NameListFault) → result ≡ Err (Names fault)
+        → IsListFault S.gives source.entry places fault }
+{
+    let Ok(door) = Door::new(listener) else {
+        return Err(ServeFault::Listen);
+    };
+    let control = ControlSocket::new(alloc, control, store.table().slots())?;
+    let names = first_list(source, places)?;
+    let (links, core) = places_of(alloc, store, places.get())?;
+    Ok(Beginning {
+        core,
+        links,
+        entrance: Entrance::Open(door),
+        policy: anew(names.is_some()),
+        names,
+        control: Some(control),
+    })
+}
+
+// The places of a life, without links, and its core.
+fn places_of<D: Disk>(
+    alloc: Global,
+    store: &Store<D>,
+    count: u64,
+) -> Result<(Vec<Link>, Core), ServeFault>
+    ensures count { IfOk result (λ life. length life.0.items ≡ count) }
+    ensures places { IfOk result (λ life. (place : ℕ) (link : Link)
+        → slice_get life.0.items place ≡ Some link → link.place ≡ place) }
+    ensures core { IfOk result (λ life. life.1 ≡ first_core (store_state D.state store.now)) }
+    ensures refused { IfErr result (λ fault. fault ≡ Refused OutOfMemory) }
+{
+    let links = match empty_places(alloc, count) {
+        Ok(links) => links,
+        Err(refusal) => return Err(ServeFault::Refused(refusal)),
+    };
+    match Core::new(alloc, store.table(), store.seq()) {
+        Ok(core) => Ok((links, core)),
+        Err(refusal) => Err(ServeFault::Refused(refusal)),
     }
 }
 
-// The policy of a life whose names are listed, and the list, which has fewer names than this number
-// of places.
-fn listed<S: NameSource>(
-    source: &S,
+// The list of the names that may greet at first, if there is one.
+fn first_list<S: NameSource>(
+    source: Option<&S>,
     places: PlaceCount,
-) -> Result<(Policy, Option<NameList>), ServeFault>
-    ensures names { IfOk result
-        (λ life. IsSomeAnd life.1 (λ list. number_of_names list < places)) }
-    ensures refused { IfErr result IsOfBeginning }
+) -> Result<Option<NameList>, ServeFault>
+    ensures { MatchResult result (IsFirstList S.gives source.entry places)
+        (λ e. (fault : NameListFault) × ((e ≡ Names fault)
+        × IsListFault S.gives source.entry places fault)) }
 {
+    let Some(source) = source else {
+        return Ok(None);
+    };
     match read_names(source, places.get() as usize) {
-        Ok(list) => Ok((anew(Some(CROWDED_WAIT)), Some(list))),
+        Ok(list) => Ok(Some(list)),
         Err(fault) => Err(ServeFault::Names(fault)),
     }
 }
@@ -255,12 +300,12 @@ const RATE: u64 = 1000;
 const BURST: u64 = 400;
 
 // A life whose links come and go.
-fn anew(crowded_wait: Option<u64>) -> Policy
+fn anew(is_listed: bool) -> Policy
     ensures { result ≡ record {
       greeting_wait = Some 10000;
       takes_over = true;
       keeps_links = false;
-      crowded_wait = crowded_wait;
+      crowded_wait = cond is_listed (Some 1000) None;
       lines_wait = true;
       copies = PerSecond 1000 400;
     } }
@@ -269,7 +314,7 @@ fn anew(crowded_wait: Option<u64>) -> Policy
         greeting_wait: Some(GREETING_WAIT),
         takes_over: true,
         keeps_links: false,
-        crowded_wait,
+        crowded_wait: is_listed.then_some(CROWDED_WAIT),
         lines_wait: true,
         copies: CopyRate::PerSecond {
             copies: CopyCount::new(RATE).unwrap(),
@@ -282,27 +327,35 @@ fn anew(crowded_wait: Option<u64>) -> Policy
 struct NoNames;
 
 impl NameSource for NoNames {
+    ghost use Rattle.std.specs.Prelude.{◌≡◌, Err};
+    ghost use Rattle.lnsd_operator.specs.declared.fault.NameListFault.TheVariants.{File};
+
+    ghost gives = { λ _ answer. answer ≡ Err File };
+
     fn read(&self) -> Result<NameList, NameListFault> {
         Err(NameListFault::File)
     }
 }
 
-// What a life begins with: the number of its places, where its links and its operators come from,
-// and what it does with its links. If the links come before, each place has one.
+// What a life begins with: its core, its places, where its links and its operators come from, and
+// what it does with its links. If the links come before, each place has one.
 #[derive(Drop)]
 struct Beginning {
-    places: u64,
+    core: Core,
+    links: Vec<Link>,
     entrance: Entrance,
     policy: Policy,
     // The names that may greet; every name may if there is no list.
     names: Option<NameList>,
     control: Option<ControlSocket>,
-    ghost few: { places ≤ 96 },
+    ghost few: { length links.items ≤ 96 },
     ghost filled: { (streams : _) → entrance ≡ Filled streams
-        → length streams.items ≡ places },
+        → length streams.items ≡ length links.items },
+    ghost places: { (place : ℕ) (link : Link) → slice_get links.items place ≡ Some link
+        → link.place ≡ place },
 }
 
-// Begins a life.
+// Begins a life, unless its beginning failed.
 fn begin<
     R: Threads + Wait + Sync,
     D: Disk + Drop,
@@ -314,28 +367,28 @@ fn begin<
     context: &Context<'_, R, G, C>,
     source: Option<&S>,
     store: Store<D>,
-    beginning: Beginning,
+    beginning: Result<Beginning, ServeFault>,
     on_begun: &mut N,
 ) -> ServedLife<D>
+    requires core { IfOk beginning (λ life. life.core ≡ first_core (store_state D.state store)) }
+    requires names { IfOk beginning
+        (λ life. IsFirstList S.gives source (length life.links.items) life.names) }
+    requires refused { IfErr beginning IsOfBeginning }
     ensures served { IsServed D.Disk store result.result result.store }
-    ensures unlisted { IfErr result.result IsNotOfNames }
-    ensures workers { IfOk result.result
-        (λ report. length report.shares.items ≡ beginning.places + 1) }
+    ensures unlisted { (fault : NameListFault) → result.result ≡ Err (Names fault)
+        → beginning ≡ Err (Names fault) }
+    ensures workers { IfOk result.result (λ report. IsOkAnd beginning
+        (λ life. length report.shares.items ≡ length life.links.items + 1)) }
 {
-    let core = match Core::new(context.alloc, store.table(), store.seq()) {
-        Ok(core) => core,
-        Err(refusal) => return failed(context.alloc, store, ServeFault::Refused(refusal)),
+    let beginning = match beginning {
+        Ok(beginning) => beginning,
+        Err(fault) => return failed(context.alloc, store, fault),
     };
-    let links = match empty_places(context.alloc, beginning.places) {
-        Ok(links) => links,
-        Err(refusal) => return failed(context.alloc, store, ServeFault::Refused(refusal)),
-    };
-    let seats = links.len() as u64 + 1;
-    let places = Places { links, beginning };
+    let seats = beginning.links.len() as u64 + 1;
     let (made, taken) = (Blank::new(seats), Blank::new(1));
     let history = BlankHistory::new();
     serve_life::<Brand, R, D, G, C, S, N>(
-        context, source, store, places, core, made, taken, history, on_begun,
+        context, source, store, beginning, made, taken, history, on_begun,
     )
 }
 
@@ -352,16 +405,6 @@ fn failed<D: Disk>(alloc: Global, store: Store<D>, fault: ServeFault) -> ServedL
     }
 }
 
-// The places of a life, and what comes into it.
-#[derive(Drop)]
-struct Places {
-    links: Vec<Link>,
-    beginning: Beginning,
-    ghost count: { length links.items ≡ beginning.places },
-    ghost places: { (place : ℕ) (link : Link) → slice_get links.items place ≡ Some link
-        → link.place ≡ place },
-}
-
 fn serve_life<
     B: Books + Send + Sync,
     R: Threads + Wait + Sync,
@@ -374,34 +417,33 @@ fn serve_life<
     context: &Context<'_, R, G, C>,
     source: Option<&S>,
     store: Store<D>,
-    places: Places,
-    core: Core,
+    beginning: Beginning,
     made: Blank,
     taken: Blank,
     history: BlankHistory,
     on_begun: &mut N,
 ) -> ServedLife<D>
     requires made { (made.name ≡ B.made_name) × (made.parts ≡ B.made_parts)
-        × (made.parts ≡ length places.links.items + 1) }
+        × (made.parts ≡ length beginning.links.items + 1) }
     requires taken { (taken.name ≡ B.taken_name) × (taken.parts ≡ 1) }
     requires history { history.seen.book ≡ B.history }
-    requires core { core
-        ≡ new_core (store_state D.state store).table (store_state D.state store).seq }
+    requires core { beginning.core ≡ first_core (store_state D.state store) }
+    requires names { IsFirstList S.gives source (length beginning.links.items) beginning.names }
     ensures served { IsServed D.Disk store result.result result.store }
     ensures unlisted { IfErr result.result IsNotOfNames }
     ensures workers { IfOk result.result
-        (λ report. length report.shares.items ≡ length places.links.items + 1) }
+        (λ report. length report.shares.items ≡ length beginning.links.items + 1) }
 {
-    let all = places.links.len() as u64 + 1;
-    let (mut shared, taker) = Shared::<B>::new(core, all, made, taken, history);
-    let Places { links, beginning } = places;
     let Beginning {
+        core,
+        links,
         entrance,
         policy,
         names,
         control,
-        ..
     } = beginning;
+    let all = links.len() as u64 + 1;
+    let (mut shared, taker) = Shared::<B>::new(core, all, made, taken, history);
     if control.is_some() {
         shared.observe();
     }
@@ -416,17 +458,29 @@ fn serve_life<
     };
     let server = LiveServer {
         signals: Signals::new(links.len() as u64),
+        directory: under_lock(directory, source, links.len()),
         links,
         entrance,
         policy,
         control,
         sessions: Mutex::new(shared),
-        directory: Mutex::new(directory),
         reloading: Mutex::new(()),
         lines,
     };
     let end = run(&*context, &server, source, store, taker, parts, on_begun);
     served_life(context.alloc, server, all, end)
+}
+
+// Puts the directory of a life under its lock. If the life has a source of names, the directory has
+// a list that the source gave.
+fn under_lock<S: NameSource>(
+    directory: Directory,
+    source: Option<&S>,
+    places: usize,
+) -> Mutex<Directory>
+    requires { IsFirstList S.gives source places directory.listed }
+{
+    Mutex::new(directory)
 }
 
 // The result of a life that has ended.
@@ -440,8 +494,8 @@ fn served_life<B: Books + Send + Sync, D: Disk + Drop>(
     ensures store { result.store ≡ end.store }
     ensures shares { IfOk result.result (λ report. sum report.shares.items ≡ report.made) }
     ensures workers { IfOk result.result (λ report. length report.shares.items ≡ all) }
-    ensures told { IfOk end.result (λ taken.
-        MatchResult result.result (λ report. report.made ≡ taken) IsUntold) }
+    ensures told { OnOk end.result (MatchResult result.result
+        (λ report. report.made ≡ length end.known) IsUntold) }
     ensures refused { IfErr end.result (λ refusal. result.result ≡ Err (Refused refusal)) }
 {
     let LiveServer {
@@ -452,6 +506,7 @@ fn served_life<B: Books + Send + Sync, D: Disk + Drop>(
     } = server;
     let LifeEnd {
         store,
+        known,
         result,
         seats,
     } = end;
@@ -460,13 +515,13 @@ fn served_life<B: Books + Send + Sync, D: Disk + Drop>(
         None => Vec::new(alloc),
     };
     let result = match result {
-        Ok(taken) => report(
+        Ok(()) => report(
             alloc,
             sessions.into_inner(),
             &signals.counts,
             all,
             seats,
-            taken,
+            &known,
         ),
         Err(refusal) => Err(ServeFault::Refused(refusal)),
     };
@@ -535,19 +590,22 @@ fn waiting_lines(alloc: Global, rings: Vec<OwnRing>) -> Result<Vec<WaitingLines>
 }
 
 // The report. If a seat didn't come back, its thread was never started, since memory ran out. If
-// not all decisions of a life were taken, there is no report, but `OutOfStep`.
+// the number of decisions seen isn't the number made, the result is `OutOfStep`. If there is a
+// report, and the core notes that its history is whole, the flusher saw that whole history.
 fn report<B: Books>(
     alloc: Global,
     shared: Shared<B>,
     counts: &Counts,
     all: u64,
     seats: Vec<Seat<B>>,
-    taken: u64,
+    seen: &History<B>,
 ) -> Result<LifeReport, ServeFault>
     requires { all ≡ B.made_parts }
-    ensures told { MatchResult result (λ report. report.made ≡ taken) IsUntold }
+    ensures told { MatchResult result (λ report. report.made ≡ length seen.now) IsUntold }
+    ensures whole { IsOk result → IsTrue shared.is_whole
+        → HasAllDecisions shared.core.decisions seen.now }
     ensures out_of_step { result ≡ Err (Refused OutOfStep)
-        → shared.core.decisions.made ≢ taken }
+        → shared.core.decisions.made ≢ length seen.now }
     ensures sum { IfOk result (λ report. sum report.shares.items ≡ report.made) }
     ensures shares { IfOk result (λ report. report.shares.items ≡ map (λ s. s.made) seats.items) }
     ensures workers { IfOk result (λ report. length report.shares.items ≡ all) }
@@ -558,10 +616,11 @@ fn report<B: Books>(
     let Ok(shares) = shares_of(alloc, &seats) else {
         return Err(ServeFault::Refused(Refusal::OutOfMemory));
     };
+    compare(&shared, seen);
     let Some(made) = shared.settle(all, seats) else {
         return Err(ServeFault::Refused(Refusal::OutOfMemory));
     };
-    if made != taken {
+    if made != seen.len() {
         return Err(ServeFault::Refused(Refusal::OutOfStep));
     }
     Ok(LifeReport {
@@ -572,6 +631,26 @@ fn report<B: Books>(
         made,
         shares,
     })
+}
+
+// Only for the proof: if as many decisions were seen as the core made, and the core notes that its
+// history is whole, what was seen is that history.
+fn compare<B: Books>(shared: &Shared<B>, seen: &History<B>)
+    ensures { IsTrue shared.now.is_whole → length seen.now ≡ shared.now.core.decisions.made
+        → HasAllDecisions shared.now.core.decisions seen.now }
+{
+    let Some(history) = shared.history() else {
+        return;
+    };
+    align(seen, &history);
+}
+
+// Only for the proof: two histories of one life that have the same length are equal, since one of
+// them is a beginning of the other.
+fn align<B: Books>(one: &History<B>, other: &History<B>)
+    ensures { length one.now ≡ length other.now → one.now ≡ other.now }
+{
+    let _begins = one.begins(other);
 }
 
 fn shares_of<B: Books>(alloc: Global, seats: &Vec<Seat<B>>) -> Result<Vec<u64>, Refusal>

@@ -19,12 +19,12 @@ lost_answer (r ∷ rs) refusal bytes (inr (rest, (front, more))) = inr (rest, (f
 pub added_answer : (refusals : List Refusal) (refusal : Refusal) (bytes : List ℕ) → AreAnswers refusals bytes
     → AreAnswers (refusals ++ refusal ∷ []) (bytes ++ answer_frame (refused_line refusal))
 added_answer [] refusal bytes nothing =
-    let behind = λ (b : List ℕ). b ++ answer_frame (refused_line refusal) in
-    inr ([], (ap behind nothing ∙ sym (append-nil (answer_frame (refused_line refusal))), refl))
+    let after = λ (b : List ℕ). b ++ answer_frame (refused_line refusal) in
+    inr ([], (ap after nothing ∙ sym (append-nil (answer_frame (refused_line refusal))), refl))
 added_answer (r ∷ rs) refusal bytes (inl more) = inl (added_answer rs refusal bytes more)
 added_answer (r ∷ rs) refusal bytes (inr (rest, (front, more))) =
-    let behind = λ (b : List ℕ). b ++ answer_frame (refused_line refusal) in
-    inr (rest ++ answer_frame (refused_line refusal), (ap behind front ∙ append_assoc (answer_frame (refused_line r)) rest (answer_frame (refused_line refusal)), added_answer rs refusal rest more))
+    let after = λ (b : List ℕ). b ++ answer_frame (refused_line refusal) in
+    inr (rest ++ answer_frame (refused_line refusal), (ap after front ∙ append_assoc (answer_frame (refused_line r)) rest (answer_frame (refused_line refusal)), added_answer rs refusal rest more))
 
 -- a call added something, if this holds, or left everything unchanged
 pub added_or_same : {T P R S : Type 0} → S → (r : Result T Refusal)

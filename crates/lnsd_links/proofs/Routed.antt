@@ -9,7 +9,7 @@ use Rattle.std.proofs.Math.Seq.{map-set_same}
 use Rattle.devices.specs.declared.effect.Effect.{Effect}
 use Rattle.flusher.specs.Released.{effect_of, effects_of_all}
 use Rattle.flusher.specs.declared.released.Released.{Released}
-use Rattle.lnsd_links.specs.Routing.{put_behind, rings_of, AreMarked, IsMarked, IsRouted, IsRoutedOne}
+use Rattle.lnsd_links.specs.Routing.{put_after, rings_of, AreMarked, IsMarked, IsRouted, IsRoutedOne}
 use Rattle.lnsd_links.specs.declared.names.Directory.{Directory}
 use Rattle.outbox.specs.Ring.{put_in, room_of}
 use Rattle.outbox.specs.declared.ends.Outlet.{Outlet}
@@ -17,11 +17,11 @@ use Rattle.outbox.specs.declared.ends.Outlet.{Outlet}
 -- an outlet that took an effect replaces the earlier state of it
 pub taken_one : (outlets : List Outlet) (n : ℕ) (d new : Outlet) (effect : Effect)
     → n < length outlets → put_in new ≡ put_in (get_or outlets n d) ++ effect ∷ []
-    → rings_of (set outlets n new) ≡ put_behind n effect (rings_of outlets)
+    → rings_of (set outlets n new) ≡ put_after n effect (rings_of outlets)
 taken_one outlets n d new effect within put =
-    let behind = λ (ring : List Effect). ring ++ effect ∷ [] in
+    let after = λ (ring : List Effect). ring ++ effect ∷ [] in
     let ring : put_in (get_or outlets n d) ≡ get_or (map put_in outlets) n [] = sym (get_or-map put_in outlets n d [] within) in
-    map-set put_in outlets n new ∙ ap (set (map put_in outlets) n) (put ∙ ap behind ring)
+    map-set put_in outlets n new ∙ ap (set (map put_in outlets) n) (put ∙ ap after ring)
 
 -- and one that took none
 pub kept_one : (outlets : List Outlet) (n : ℕ) (d new : Outlet) → put_in new ≡ put_in (get_or outlets n d)
@@ -79,41 +79,41 @@ marked_then before between now old middle new (inr (kept, nothing)) (inr (same, 
 -- an effect was put into a ring, which is marked
 pub marked_one : (before now : List Bool) (old middle new : List Outlet) (n : ℕ) (effect : Effect)
     → AreMarked before now old middle → length now ≡ length before
-    → n < length middle → n < length now → rings_of new ≡ put_behind n effect (rings_of middle)
+    → n < length middle → n < length now → rings_of new ≡ put_after n effect (rings_of middle)
     → AreMarked before (set now n true) old new
 marked_one before now old middle new n effect marked long within is_marked put ring low =
     let rings = rings_of middle in
-    let behind = get_or rings n [] ++ effect ∷ [] in
+    let after = get_or rings n [] ++ effect ∷ [] in
     let here : n < length rings = omega (arith, within, length-map middle put_in) in
-    let got : get_or (rings_of new) ring [] ≡ get_or (set rings n behind) ring [] = ap (λ (all : List (List Effect)). get_or all ring []) put in
+    let got : get_or (rings_of new) ring [] ≡ get_or (set rings n after) ring [] = ap (λ (all : List (List Effect)). get_or all ring []) put in
     marked_then (get_or before ring false) (get_or now ring false) (get_or (set now n true) ring false)
     (get_or (rings_of old) ring []) (get_or rings ring []) (get_or (rings_of new) ring [])
     (marked ring low)
     (elim (cases_eq ring n) [
       | inl same ↦
-          let P : ℕ → Type 0 = λ k. get_or (set rings n behind) k [] ≡ get_or rings k [] ++ effect ∷ [] in
+          let P : ℕ → Type 0 = λ k. get_or (set rings n after) k [] ≡ get_or rings k [] ++ effect ∷ [] in
           let Q : ℕ → Type 0 = λ k. get_or (set now n true) k false ≡ true in
           inl (
             subst Q (sym same) (get_or-set_same now n true false is_marked),
-            (effect, ([], got ∙ subst P (sym same) (get_or-set_same rings n behind [] here))),
+            (effect, ([], got ∙ subst P (sym same) (get_or-set_same rings n after [] here))),
           )
       | inr other ↦
-          inr (get_or-set_other now n ring true false other, got ∙ get_or-set_other rings n ring behind [] other)
+          inr (get_or-set_other now n ring true false other, got ∙ get_or-set_other rings n ring after [] other)
     ])
 
 -- an effect was put into a ring that has no mark
 pub marked_none : (before now : List Bool) (old middle new : List Outlet) (n : ℕ) (effect : Effect)
     → AreMarked before now old middle → length now ≡ length before
-    → length now ≤ n → rings_of new ≡ put_behind n effect (rings_of middle)
+    → length now ≤ n → rings_of new ≡ put_after n effect (rings_of middle)
     → AreMarked before now old new
 marked_none before now old middle new n effect marked long beyond put ring low =
     let rings = rings_of middle in
-    let behind = get_or rings n [] ++ effect ∷ [] in
-    let got : get_or (rings_of new) ring [] ≡ get_or (set rings n behind) ring [] = ap (λ (all : List (List Effect)). get_or all ring []) put in
+    let after = get_or rings n [] ++ effect ∷ [] in
+    let got : get_or (rings_of new) ring [] ≡ get_or (set rings n after) ring [] = ap (λ (all : List (List Effect)). get_or all ring []) put in
     let other : ring ≢ n = λ same. omega (arith, same, low, long, beyond) in
     marked_then (get_or before ring false) (get_or now ring false) (get_or now ring false)
     (get_or (rings_of old) ring []) (get_or rings ring []) (get_or (rings_of new) ring [])
-    (marked ring low) (inr (refl, got ∙ get_or-set_other rings n ring behind [] other))
+    (marked ring low) (inr (refl, got ∙ get_or-set_other rings n ring after [] other))
 
 -- an effect was put into no ring
 pub marked_lost : (before now : List Bool) (old middle new : List Outlet)

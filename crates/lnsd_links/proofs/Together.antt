@@ -3,7 +3,8 @@ use Rattle.std.proofs.Common.{◌≡◌, ◌+◌, ◌++◌, ◌∷◌, ℕ, List
 use Rattle.devices.specs.declared.effect.Effect.{Effect}
 use Rattle.gateway_wire.specs.Emission.{recipient}
 use Rattle.gateway_wire.specs.declared.recipient.Recipient.{Recipient}
-use Rattle.lnsd_links.specs.Sending.{effect_frame, AreTogether}
+use Rattle.gateway_wire.specs.Emission.{effect_frame}
+use Rattle.lnsd_links.specs.Sending.{AreTogether}
 
 -- and lost
 pub lost_one : (name : Recipient) (effects : List Effect) (effect : Effect) (lost : ℕ) (bytes : List ℕ)
@@ -19,10 +20,10 @@ pub added_one : (name : Recipient) (effects : List Effect) (effect : Effect) (lo
     → recipient effect ≡ name → AreTogether name effects lost bytes
     → AreTogether name (effects ++ effect ∷ []) lost (bytes ++ effect_frame effect)
 added_one name [] effect lost bytes is (none, nothing) =
-    let behind = λ (b : List ℕ). b ++ effect_frame effect in
-    inr (is, ([], (ap behind nothing ∙ sym (append-nil (effect_frame effect)), (none, refl))))
+    let after = λ (b : List ℕ). b ++ effect_frame effect in
+    inr (is, ([], (ap after nothing ∙ sym (append-nil (effect_frame effect)), (none, refl))))
 added_one name (e ∷ es) effect lost bytes is (inl (others, (count, more))) =
     inl (others, (count, added_one name es effect others bytes is more))
 added_one name (e ∷ es) effect lost bytes is (inr (for_it, (rest, (front, more)))) =
-    let behind = λ (b : List ℕ). b ++ effect_frame effect in
-    inr (for_it, (rest ++ effect_frame effect, (ap behind front ∙ append_assoc (effect_frame e) rest (effect_frame effect), added_one name es effect lost rest is more)))
+    let after = λ (b : List ℕ). b ++ effect_frame effect in
+    inr (for_it, (rest ++ effect_frame effect, (ap after front ∙ append_assoc (effect_frame e) rest (effect_frame effect), added_one name es effect lost rest is more)))

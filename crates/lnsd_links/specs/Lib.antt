@@ -3,6 +3,7 @@ pub mod LinesLeft
 pub mod Linked
 pub mod NameLines
 pub mod Names
+pub mod NamesRead
 pub mod Routing
 pub mod Same
 pub mod Sending

@@ -15,8 +15,8 @@ abbrev pub rings_of : List Outlet → List (List Effect)
 rings_of outlets = map put_in outlets
 
 -- the effect is put after those of one ring
-abbrev pub put_behind : ℕ → Effect → List (List Effect) → List (List Effect)
-put_behind ring effect rings =
+abbrev pub put_after : ℕ → Effect → List (List Effect) → List (List Effect)
+put_after ring effect rings =
     slice_set rings ring (slice_index_or rings ring [] ++ effect ∷ [])
 
 -- this is the ring of the effect's recipient
@@ -30,7 +30,7 @@ IsRoutedOne directory effect got old new = MatchOption got
     ((rings_of new ≡ rings_of old) × ((ring : ℕ) (outlet : Outlet) → IsFor directory effect ring
     → slice_get old ring ≡ Some outlet → room_of outlet ≡ 0))
     (λ ring. IsFor directory effect ring
-    × (rings_of new ≡ put_behind ring effect (rings_of old)))
+    × (rings_of new ≡ put_after ring effect (rings_of old)))
 
 -- effects are put into rings one after another, and this number of them are lost
 abbrev pub IsRouted : Directory → List Effect → ℕ → List Outlet → List Outlet → Type 0

@@ -5,18 +5,8 @@ use Rattle.std.specs.Io.KnownBytes.{Appends}
 use Rattle.lw_types.specs.declared.refusal.Refusal.{Refusal}
 use Rattle.devices.specs.declared.effect.Effect.{Effect}
 use Rattle.gateway_wire.specs.Answer.{answer_frame, refused_line}
-use Rattle.gateway_wire.specs.Emission.{emission, recipient}
-use Rattle.gateway_wire.specs.declared.emission.Emission.{Emission}
-use Rattle.gateway_wire.specs.declared.emission.Emission.TheVariants.{Gateway, Application}
+use Rattle.gateway_wire.specs.Emission.{effect_frame, recipient}
 use Rattle.gateway_wire.specs.declared.recipient.Recipient.{Recipient}
-
-abbrev pub emission_frame : Emission → List ℕ
-emission_frame (Gateway gateway frame) = frame
-emission_frame (Application application line) = answer_frame line
-
--- the frame of the wire for an effect
-abbrev pub effect_frame : Effect → List ℕ
-effect_frame effect = emission_frame (emission effect)
 
 -- the frames of effects, one after another, each for the link of this name, without the lost ones,
 -- which are this number

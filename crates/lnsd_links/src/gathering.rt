@@ -1,18 +1,15 @@
-// Putting effects and refusals together as frames of the wire.
+// Putting effects together as frames of the wire.
 ghost use Rattle.std.specs.Prelude.{◌≡◌, ◌≤◌, ◌++◌, ◌⊎◌, List, [], length, IsTrue, MatchBool};
-ghost use Rattle.std.specs.Prelude.{false, MatchResult};
-ghost use Rattle.lw_types.specs.declared.refusal.Refusal.TheVariants.{OutOfMemory};
+ghost use Rattle.std.specs.Prelude.{false};
 ghost use Rattle.devices.specs.declared.effect.Effect.{Effect};
-ghost use Rattle.gateway_wire.specs.Answer.{answer_frame, refused_line};
-ghost use Rattle.gateway_wire.specs.Emission.{recipient};
-ghost use Rattle.lnsd_links.specs.Sending.{effect_frame, AreGathered};
+ghost use Rattle.gateway_wire.specs.Emission.{effect_frame, recipient};
+ghost use Rattle.lnsd_links.specs.Sending.{AreGathered};
 ghost use Rattle.outbox.specs.Ring.{seen_by, taken_from};
 
 use crate::outgoing::{MUCH, Outgoing};
 use crate::rings::PLACES;
 use devices::Effect;
-use gateway_wire::{Emission, Recipient, refused_line};
-use lw_types::Refusal;
+use gateway_wire::Recipient;
 use outbox::Inlet;
 use std::alloc::Global;
 
@@ -93,28 +90,5 @@ fn is_put(
         (outgoing.new ≡ outgoing.old) }
     ensures broken { IsTrue is_broken → result ≡ false }
 {
-    !is_broken && Recipient::of(&effect) == *name && add_effect(alloc, &effect, outgoing).is_ok()
-}
-
-// Puts the frame of an effect after the others. Refused with `OutOfMemory` if memory runs out; then
-// nothing is changed.
-fn add_effect(alloc: Global, effect: &Effect, outgoing: &mut Outgoing) -> Result<(), Refusal>
-    ensures { MatchResult result (λ _. outgoing.new ≡ outgoing.old ++ effect_frame effect.now)
-        (λ e. (e ≡ OutOfMemory) × (outgoing.new ≡ outgoing.old)) }
-{
-    match Emission::of(alloc, effect)? {
-        Emission::Gateway { frame, .. } => outgoing.add(frame.as_slice()),
-        Emission::Application { line, .. } => outgoing.add_answer(line.as_str().as_bytes()),
-    }
-}
-
-/// Puts the answer to a refused request after the other frames. Refused with `OutOfMemory` if
-/// memory runs out; then nothing is changed.
-pub fn add_refusal(alloc: Global, refusal: Refusal, outgoing: &mut Outgoing) -> Result<(), Refusal>
-    ensures { MatchResult result
-        (λ _. outgoing.new ≡ outgoing.old ++ answer_frame (refused_line refusal))
-        (λ e. (e ≡ OutOfMemory) × (outgoing.new ≡ outgoing.old)) }
-{
-    let line = refused_line(alloc, refusal)?;
-    outgoing.add_answer(line.as_str().as_bytes())
+    !is_broken && Recipient::of(&effect) == *name && outgoing.add_effect(alloc, &effect).is_ok()
 }

@@ -51,12 +51,13 @@ pub struct Link {
     over: AtomicBool,
     // The current link lost its name, to a later link or since the name isn't listed any more, and
     // was closed.
-    taken: AtomicBool,
+    disconnected: AtomicBool,
     // One more than the moment of the last copy on the current link; 0 before the first.
     last_copy: AtomicU64,
 }
 
-/// Shows that the link in a place was closed, since it lost its name. Only [`Link::take`] makes it.
+/// Shows that the link in a place was closed, since it lost its name. Only [`Link::disconnect`]
+/// makes it.
 #[derive(Clone, Copy)]
 pub struct ClosedLink {
     place: usize,
@@ -89,7 +90,7 @@ impl Link {
             pause: Parker::new(),
             spare: Mutex::new(None),
             over: AtomicBool::new(false),
-            taken: AtomicBool::new(false),
+            disconnected: AtomicBool::new(false),
             last_copy: AtomicU64::new(0),
         }
     }
@@ -131,24 +132,24 @@ impl Link {
     }
 
     /// Closes the current link, which loses its name.
-    pub(crate) fn take<R: Wait>(&self, rt: &R) -> ClosedLink
+    pub(crate) fn disconnect<R: Wait>(&self, rt: &R) -> ClosedLink
         ensures { result.place ≡ self.now.place }
     {
-        self.taken.store(true, SeqCst);
+        self.disconnected.store(true, SeqCst);
         self.close(rt);
         ClosedLink { place: self.place }
     }
 
     /// Whether the current link lost its name.
-    pub fn is_taken(&self) -> bool {
-        self.taken.load(SeqCst)
+    pub fn is_disconnected(&self) -> bool {
+        self.disconnected.load(SeqCst)
     }
 
     /// Returns a `Named` if the current link still has its name.
     pub fn named(&self) -> Option<Named>
         ensures { IfSome result (λ named. named.place ≡ self.now.place) }
     {
-        if self.is_taken() {
+        if self.is_disconnected() {
             None
         } else {
             Some(Named { place: self.place })
@@ -165,7 +166,7 @@ impl Link {
     /// Registers the next link, so that others can close it.
     pub fn show<R: Wait>(&self, rt: &R, stream: TcpStream) {
         self.over.store(false, SeqCst);
-        self.taken.store(false, SeqCst);
+        self.disconnected.store(false, SeqCst);
         self.last_copy.store(0, SeqCst);
         *self.current.lock(rt) = Some(stream);
     }

@@ -1,6 +1,7 @@
 // Which gateways and applications have links.
 ghost use Rattle.std.specs.Prelude.{◌≡◌, ◌≤◌, ℕ, length, vec_capacity, slice_get, IsSomeAnd};
-ghost use Rattle.std.specs.Prelude.{None, Some};
+ghost use Rattle.std.specs.Prelude.{None, Some, false, true};
+ghost use Rattle.lnsd_links.specs.Names.{has_name};
 
 use crate::link::{ClosedLink, Link};
 use crate::name_list::NameList;
@@ -84,7 +85,7 @@ fn close_link_of<R: Wait>(rt: &R, links: &[Link], number: Option<usize>) -> Opti
     ensures alone { number ≡ None → result ≡ None }
 {
     let link = links.get(number?)?;
-    Some(link.take(rt))
+    Some(link.disconnect(rt))
 }
 
 // Closes the link of a name that isn't listed, if it has one.
@@ -94,10 +95,16 @@ fn close_unlisted<R: Wait>(
     list: &NameList,
     name: Recipient,
     link: Option<usize>,
-) {
-    if !list.has(&name) {
-        let _ = close_link_of(rt, links, link);
+) -> Option<ClosedLink>
+    ensures listed { has_name list.now name ≡ true → result ≡ None }
+    ensures unlisted { has_name list.now name ≡ false → (place : ℕ) (closed : Link)
+        → link ≡ Some place → slice_get links.now place ≡ Some closed
+        → IsSomeAnd result (λ shown. shown.place ≡ closed.place) }
+{
+    if list.has(&name) {
+        return None;
     }
+    close_link_of(rt, links, link)
 }
 
 /// Why a link isn't given a name.
@@ -113,7 +120,7 @@ pub enum Ungranted {
 
 impl Directory {
     ghost use Rattle.std.specs.Prelude.{◌≢◌, ◌↔◌, ◌<◌, IsSome, IfOk, IsOk, IsTrue};
-    ghost use Rattle.std.specs.Prelude.{Err, IfErr, MatchBool, MatchResult, false};
+    ghost use Rattle.std.specs.Prelude.{Err, IfErr, MatchBool, MatchResult};
     ghost use Rattle.gateway_wire.specs.declared.recipient.Recipient.TheVariants as names;
     ghost use Rattle.lw_types.specs.declared.identifiers.Eui.{Eui};
     ghost use Rattle.lnsd_links.specs.Linked.{gateway_link, link_of, ring_of};
@@ -159,17 +166,13 @@ impl Directory {
         ensures { self.new ≡ record self.old { listed = Some list } }
     {
         for linked in &self.gateways {
-            close_unlisted(
-                rt,
-                links,
-                &list,
-                Recipient::Gateway(linked.gateway),
-                Some(linked.link),
-            );
+            let name = Recipient::Gateway(linked.gateway);
+            let _ = close_unlisted(rt, links, &list, name, Some(linked.link));
         }
         for (number, link) in self.applications.iter().enumerate() {
             if let Some(application) = Application::new(number as u64) {
-                close_unlisted(rt, links, &list, Recipient::Application(application), *link);
+                let name = Recipient::Application(application);
+                let _ = close_unlisted(rt, links, &list, name, *link);
             }
         }
         self.listed = Some(list);

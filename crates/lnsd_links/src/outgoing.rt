@@ -1,10 +1,12 @@
 // Frames that are sent together.
-ghost use Rattle.std.specs.Prelude.{◌≡◌, ◌++◌, ◌≤◌, ◌↔◌, ℕ, List, [], length, IsTrue, MatchResult};
-ghost use Rattle.std.specs.Prelude.{OnOk};
-ghost use Rattle.gateway_wire.specs.Answer.{answer_frame};
+ghost use Rattle.std.specs.Prelude.{◌≡◌, ◌++◌, ◌≤◌, ◌↔◌, [], length, IsTrue, MatchResult};
+ghost use Rattle.std.specs.Prelude.{take, Err};
+ghost use Rattle.gateway_wire.specs.Answer.{answer_frame, refused_line};
+ghost use Rattle.gateway_wire.specs.Emission.{effect_frame};
 ghost use Rattle.lw_types.specs.declared.refusal.Refusal.TheVariants.{OutOfMemory};
 
-use gateway_wire::{ANSWER, LONGEST_ANSWER};
+use devices::Effect;
+use gateway_wire::{put_effect, put_refusal};
 use lw_types::Refusal;
 use std::alloc::{AllocError, Global};
 use std::marker::Model;
@@ -43,29 +45,39 @@ impl Outgoing {
         self.bytes.reserve(MUCH + 1024)
     }
 
-    /// Puts a frame after the others. Refused with `OutOfMemory` if memory runs out; then nothing
-    /// is changed.
-    pub fn add(&mut self, frame: &[u8]) -> Result<(), Refusal>
-        ensures { MatchResult result (λ _. self.new ≡ self.old ++ frame.now)
-            (λ e. (e ≡ OutOfMemory) × (self.new ≡ self.old)) }
-    {
-        self.bytes.extend_from_slice(frame)?;
-        Ok(())
-    }
-
-    /// Puts the frame of an answer with this line after the others. Refused with `OutOfMemory` if
-    /// memory runs out; then nothing is changed.
-    pub fn add_answer(&mut self, line: &[u8]) -> Result<(), Refusal>
-        requires { length line.now ≤ LONGEST_ANSWER }
-        ensures { MatchResult result (λ _. self.new ≡ self.old ++ answer_frame line.now)
+    /// Puts the frame of an effect after the others. Refused with `OutOfMemory` if memory runs out;
+    /// then nothing is changed.
+    pub fn add_effect(&mut self, alloc: Global, effect: &Effect) -> Result<(), Refusal>
+        ensures { MatchResult result (λ _. self.new ≡ self.old ++ effect_frame effect.now)
             (λ e. (e ≡ OutOfMemory) × (self.new ≡ self.old)) }
     {
         let before = self.bytes.len();
-        if put_answer(&mut self.bytes, line).is_err() {
-            self.bytes.truncate(before);
-            return Err(Refusal::OutOfMemory);
+        match put_effect(alloc, effect, &mut self.bytes) {
+            Ok(()) => Ok(()),
+            Err(_) => self.cut_to(before),
         }
-        Ok(())
+    }
+
+    /// Puts the answer to a refused request after the other frames. Refused with `OutOfMemory` if
+    /// memory runs out; then nothing is changed.
+    pub fn add_refusal(&mut self, alloc: Global, refusal: Refusal) -> Result<(), Refusal>
+        ensures { MatchResult result
+            (λ _. self.new ≡ self.old ++ answer_frame (refused_line refusal))
+            (λ e. (e ≡ OutOfMemory) × (self.new ≡ self.old)) }
+    {
+        let before = self.bytes.len();
+        match put_refusal(alloc, refusal, &mut self.bytes) {
+            Ok(()) => Ok(()),
+            Err(_) => self.cut_to(before),
+        }
+    }
+
+    // Removes what was appended of a frame when memory ran out, and returns the error.
+    fn cut_to(&mut self, before: usize) -> Result<(), Refusal>
+        ensures { (self.new ≡ take before self.old) × (result ≡ Err OutOfMemory) }
+    {
+        self.bytes.truncate(before);
+        Err(Refusal::OutOfMemory)
     }
 
     /// Whether there is enough to send.
@@ -92,18 +104,4 @@ impl Outgoing {
     {
         self.bytes.clear();
     }
-}
-
-// Puts the frame of an answer with this line after these bytes; if memory runs out, perhaps only a
-// part of the frame.
-fn put_answer(bytes: &mut Vec<u8>, line: &[u8]) -> Result<(), AllocError>
-    requires { length line.now ≤ LONGEST_ANSWER }
-    ensures put { OnOk result (bytes.new.items ≡ bytes.old.items ++ answer_frame line.now) }
-    ensures kept { (more : List ℕ) × (bytes.new.items ≡ bytes.old.items ++ more) }
-{
-    let len = (1 + line.len()) as u16;
-    bytes.extend_from_slice(&len.to_be_bytes())?;
-    bytes.push(ANSWER)?;
-    bytes.extend_from_slice(line)?;
-    Ok(())
 }

@@ -6,7 +6,7 @@ ghost use Rattle.outbox.specs.Ring.{seen_by, taken_from};
 ghost use Rattle.rtrb.specs.Ring.{known_items, received};
 ghost use Rattle.lnsd_links.specs.Sending.{AreGathered, HaveAnswered, IsHandedOver, IsWrittenTo};
 
-use crate::gathering::{Gathered, SOME, add_refusal, gather};
+use crate::gathering::{Gathered, SOME, gather};
 use crate::link::{Link, Named};
 use crate::outgoing::{MUCH, Outgoing};
 use crate::rings::WaitingLines;
@@ -192,7 +192,7 @@ impl<'x, R: Wait> Sender<'x, R> {
             };
             some = true;
             if !self.is_broken {
-                let _ = add_refusal(self.alloc, refusal, &mut self.outgoing);
+                let _ = self.outgoing.add_refusal(self.alloc, refusal);
             }
         }
         some
@@ -351,7 +351,7 @@ impl<'x, R: Wait> HostSender<'x, R> {
             if inlet.is_some() {
                 return inlet;
             }
-            if self.link.is_over() || self.link.is_taken() || self.signals.is_stopped() {
+            if self.link.is_over() || self.link.is_disconnected() || self.signals.is_stopped() {
                 return None;
             }
             self.link.bell.park(self.rt);

@@ -1,6 +1,6 @@
 // A worker, which reads a link and hands in what is sent on it.
 ghost use Rattle.std.specs.Prelude.{◌≡◌, ◌<◌, ◌+◌, ◌^◌, ◌↔◌, ◌++◌, ◌⊎◌, ℕ, [], IfSome, IsTrue};
-ghost use Rattle.std.specs.Prelude.{List, None, Some, false, true};
+ghost use Rattle.std.specs.Prelude.{List, MatchResult, None, Some, false, true};
 ghost use Rattle.link_messages.specs.Feeding.{Feeds, fault_in, new_feed};
 ghost use Rattle.link_messages.specs.declared.message.Message.TheVariants as said;
 ghost use Rattle.link_messages.specs.declared.message.Peer.TheVariants as peers;
@@ -188,12 +188,12 @@ impl<'x, B: Books, R: Wait, G: Gate, C: LifeClock> Worker<'x, B, R, G, C> {
 
     // Whether this side closed the link: what came before that is no longer of use.
     fn is_closed(&self) -> bool {
-        self.link.is_taken() || self.server.signals.is_stopped()
+        self.link.is_disconnected() || self.server.signals.is_stopped()
     }
 
     /// The input has ended. Inside a frame that is a fault, unless this side ended the input.
     pub(crate) fn end(&self) {
-        let is_cut = self.link.is_taken() || self.server.signals.is_ending();
+        let is_cut = self.link.is_disconnected() || self.server.signals.is_ending();
         if self.feeder.end().is_err() && !is_cut {
             self.count_fault();
         }
@@ -271,18 +271,14 @@ impl<'x, B: Books, R: Wait, G: Gate, C: LifeClock> Worker<'x, B, R, G, C> {
         ensures unpaid { result ≡ false → self.new ≡ self.old }
         ensures same { self.new ≡ record self.old { allowance = self.new.allowance } }
     {
-        let Some(mut allowance) = self.allowance else {
-            return true;
-        };
         let mut has_waited = false;
         for _ in self.context.rt.forever() {
             let now = self.context.clock.now();
-            let Err(until) = allowance.pay(copies, now) else {
-                self.allowance = Some(allowance);
+            let Err(until) = self.pay_now(copies, now) else {
                 return true;
             };
-            let may_come = now < until;
-            if !may_come || self.is_closed() || has_waited && self.server.signals.is_ending() {
+            let comes_later = now < until;
+            if !comes_later || self.is_closed() || has_waited && self.server.signals.is_ending() {
                 return false;
             }
             if !has_waited {
@@ -292,6 +288,20 @@ impl<'x, B: Books, R: Wait, G: Gate, C: LifeClock> Worker<'x, B, R, G, C> {
             self.wait_until(until.min(moved_on(now, LONGEST_PAUSE)));
         }
         false
+    }
+
+    // Pays for copies if they may come now. Otherwise nothing is changed, and the result is the
+    // first moment at which they may come.
+    fn pay_now(&mut self, copies: u64, now: Moment) -> Result<(), Moment>
+        ensures paid { MatchResult result
+            (λ _. ArePaidFor copies self.old.allowance self.new.allowance)
+            (λ _. self.new ≡ self.old) }
+        ensures same { self.new ≡ record self.old { allowance = self.new.allowance } }
+    {
+        match &mut self.allowance {
+            Some(allowance) => allowance.pay(copies, now),
+            None => Ok(()),
+        }
     }
 
     // Waits until this moment, or until the link is closed.

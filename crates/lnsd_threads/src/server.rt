@@ -3,6 +3,7 @@ ghost use Rattle.std.specs.Prelude.{◌≡◌, ℕ, IsSome, None, Some, length, 
 ghost use Rattle.std.specs.Option.{option_copied};
 ghost use Rattle.gateway_wire.specs.declared.recipient.Recipient.TheVariants as names;
 ghost use Rattle.lnsd_links.specs.declared.link.Link.{Link};
+ghost use Rattle.lnsd_threads.specs.Named.{HaveBeenRead};
 ghost use Rattle.lnsd_links.specs.declared.rings.WaitingLines.{WaitingLines};
 ghost use Rattle.lw_types.specs.declared.identifiers.Eui.{Eui};
 
@@ -69,7 +70,9 @@ impl<B: Books> LiveServer<B> {
         &self,
         rt: &R,
         source: &S,
-    ) -> Result<(), NameListFault> {
+    ) -> Result<(), NameListFault>
+        ensures { HaveBeenRead (S.gives source.now) (length self.now.links.items) result }
+    {
         let _reloading = self.reloading.lock(rt);
         let list = read_names(source, self.links.len())?;
         let links = self.links.as_slice();

@@ -1,19 +1,17 @@
 // The number of durable decisions that an operator reads.
 use crate::disks::HeldDisk;
 use crate::gates::{HoldBoth, Marks};
-use crate::lives::{new_disk, of_socket, refusal_of};
+use crate::lives::{live_beside, new_disk};
 use crate::names_tests::TextNames;
 use crate::talk::{answer, connect, order, say};
-use lnsd_life::{Monotonic, NobodyTold, Order, PlaceCount, ServedLife, serve_on};
-use lnsd_operator::DiskTimes;
+use lnsd_life::{NobodyTold, Order};
 use lw_types::Refusal;
 use std::alloc::Global;
 use std::net::{Net, SocketAddr, TcpListener, TcpStream};
 use std::os::unix::net;
-use std::os::unix::net::{SocketAddrExt, UnixListener};
 use std::rt::{Clock, Files};
 use std::sync::Wait;
-use std::thread::{Threads, join};
+use std::thread::Threads;
 use store::open;
 
 // How often a status is read before it is given up.
@@ -75,41 +73,20 @@ fn live<R>(rt: &R, alloc: Global) -> Result<(String, String), Refusal>
 where
     R: Net<Listener = TcpListener, Stream = TcpStream> + Files + Clock + Threads + Wait + Sync,
 {
-    let listener = of_socket(TcpListener::bind(rt, "127.0.0.1:0"))?;
-    let address = of_socket(listener.local_addr())?;
-    let name = format!(in alloc; "bozintar-durable-{}", address.port())?;
-    let at = of_socket(net::SocketAddr::from_abstract_name(name.as_bytes()))?;
-    let control = of_socket(UnixListener::bind_addr(rt, &at))?;
-    let clock = of_socket(Monotonic::start(rt))?;
-    let places = PlaceCount::new(2).ok_or(Refusal::Damaged)?;
-    let (times, marks) = (DiskTimes::new(), Marks::new());
+    let marks = Marks::new();
     let store = open(alloc, HeldDisk::new(new_disk(alloc)?, &marks))?;
     let gate = HoldBoth { marks: &marks };
-    let (served, said) = join(
+    let (said, _) = live_beside(
         rt,
-        || serve_on(
-            rt,
-            alloc,
-            store,
-            listener,
-            control,
-            places,
-            None::<&TextNames>,
-            &gate,
-            &clock,
-            &times,
-            &mut NobodyTold,
-        ),
-        || clients(rt, alloc, address, &at),
-    );
-    let ServedLife {
-        result,
-        waiting,
-        ..
-    } = served;
-    drop(waiting);
-    let _report = result.map_err(|fault| refusal_of(fault))?;
-    said
+        alloc,
+        store,
+        2,
+        None::<&TextNames>,
+        &gate,
+        &mut NobodyTold,
+        |address, at| clients(rt, alloc, address, &at),
+    )?;
+    Ok(said)
 }
 
 #[test]

@@ -1,15 +1,22 @@
 // Lives of a server over loopback.
 use crate::wire::wire;
 use disk::{Disk, MemDisk};
-use lnsd_life::{Gate, LifeClock, LinkCount, ServeFault, ServedLife, serve_links};
+use lnsd_life::{
+    Gate, LifeClock, LifeReport, LinkCount, Monotonic, NameSource, OnBegun, PlaceCount, ServeFault,
+    ServedLife, serve_links, serve_on,
+};
+use lnsd_operator::DiskTimes;
 use lw_types::{NetId, Refusal};
 use sessions::Slots;
 use std::alloc::Global;
 use std::io;
 use std::io::{Read, Write};
-use std::net::{Net, Shutdown, TcpListener, TcpStream};
+use std::net::{Net, Shutdown, SocketAddr, TcpListener, TcpStream};
+use std::os::unix::net;
+use std::os::unix::net::{SocketAddrExt, UnixListener};
+use std::rt::{Clock, Files};
 use std::sync::Wait;
-use std::thread::Threads;
+use std::thread::{Threads, join};
 use store::{Store, disk_len, format};
 
 /// The number of slots of the stores.
@@ -72,6 +79,51 @@ pub fn serve<R: Threads + Wait + Sync, D: Disk + Drop, G: Gate + Sync, C: LifeCl
     let count = LinkCount::new(clients.len() as u64).unwrap_or(LinkCount::new(1).unwrap());
     let served = serve_links(rt, alloc, store, listener, count, gate, clock);
     (served, clients)
+}
+
+/// Runs a life with this number of places over a store, and clients beside it. The clients get the
+/// addresses of the life and of its control socket, and have to order the life to end. Returns what
+/// the clients return, and the life's report.
+pub fn live_beside<R, T, D, S, G, N, F>(
+    rt: &R,
+    alloc: Global,
+    store: Store<D>,
+    places: u64,
+    names: Option<&S>,
+    gate: &G,
+    on_begun: &mut N,
+    clients: F,
+) -> Result<(T, LifeReport), Refusal>
+where
+    R: Net<Listener = TcpListener, Stream = TcpStream> + Files + Clock + Threads + Wait + Sync,
+    T: Send + Drop,
+    D: Disk + Drop + Send,
+    S: NameSource + Sync,
+    G: Gate + Sync,
+    N: OnBegun + Send,
+    F: FnOnce(SocketAddr, net::SocketAddr) -> Result<T, Refusal> + Send + Drop,
+    requires { F.IsAlwaysCallable clients }
+{
+    let listener = of_socket(TcpListener::bind(rt, "127.0.0.1:0"))?;
+    let address = of_socket(listener.local_addr())?;
+    let name = format!(in alloc; "bozintar-life-{}", address.port())?;
+    let at = of_socket(net::SocketAddr::from_abstract_name(name.as_bytes()))?;
+    let control = of_socket(UnixListener::bind_addr(rt, &at))?;
+    let clock = of_socket(Monotonic::start(rt))?;
+    let count = PlaceCount::new(places).ok_or(Refusal::Damaged)?;
+    let times = DiskTimes::new();
+    let (served, said) = join(
+        rt,
+        || serve_on(
+            rt, alloc, store, listener, control, count, names, gate, &clock, &times, on_begun,
+        ),
+        || -> Result<T, Refusal>
+            requires { F.IsAlwaysCallable clients }
+        { clients(address, at) },
+    );
+    drop(served.waiting);
+    let report = served.result.map_err(|fault| refusal_of(fault))?;
+    Ok((said?, report))
 }
 
 /// All that a client receives, up to the end of its link, however it ends.

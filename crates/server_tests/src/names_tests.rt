@@ -1,23 +1,18 @@
 // Names that may greet, and how fast copies may come.
-use crate::lives::{new_store, of_socket, refusal_of};
+use crate::lives::{live_beside, new_store};
 use crate::talk::{answer, connect, ends, order};
-use lnsd_life::{
-    Monotonic, NameList, NameListFault, NameSource, NobodyTold, OpenGate, Order, PlaceCount,
-    RELOADED, ServedLife, serve_on,
-};
+use lnsd_life::{NameList, NameListFault, NameSource, NobodyTold, OpenGate, Order, RELOADED};
 use lnsd_links::{Allowance, CopyCount, CopyRate};
-use lnsd_operator::DiskTimes;
 use lw_types::Refusal;
 use session_core::Moment;
 use std::alloc::Global;
 use std::net::{Net, SocketAddr, TcpListener, TcpStream};
 use std::os::unix::net;
-use std::os::unix::net::{SocketAddrExt, UnixListener};
 use std::rt::{Clock, Files};
 use std::sync::Wait;
 use std::sync::atomic::AtomicU64;
 use std::sync::atomic::Ordering::SeqCst;
-use std::thread::{Threads, join};
+use std::thread::Threads;
 
 /// The names that may greet: one text after the other, the last one again and again.
 #[derive(Drop)]
@@ -28,6 +23,11 @@ pub struct TextNames<'a> {
 }
 
 impl<'a> NameSource for TextNames<'a> {
+    ghost use Rattle.std.specs.Prelude.{⊤};
+
+    // Any result: which text is read depends on a counter, which has no model here.
+    ghost gives = { λ _ _. ⊤ };
+
     fn read(&self) -> Result<NameList, NameListFault> {
         let number = self.reads.fetch_add(1, SeqCst) as usize;
         match self.texts.get(number).or(self.texts.last()) {
@@ -198,40 +198,17 @@ fn live<R>(rt: &R, alloc: Global, names: &TextNames<'_>) -> Result<Answers, Refu
 where
     R: Net<Listener = TcpListener, Stream = TcpStream> + Files + Clock + Threads + Wait + Sync,
 {
-    let listener = of_socket(TcpListener::bind(rt, "127.0.0.1:0"))?;
-    let address = of_socket(listener.local_addr())?;
-    let name = format!(in alloc; "bozintar-names-{}", address.port())?;
-    let at = of_socket(net::SocketAddr::from_abstract_name(name.as_bytes()))?;
-    let control = of_socket(UnixListener::bind_addr(rt, &at))?;
-    let clock = of_socket(Monotonic::start(rt))?;
-    let places = PlaceCount::new(4).ok_or(Refusal::Damaged)?;
-    let times = DiskTimes::new();
-    let store = new_store(alloc)?;
-    let (served, said) = join(
+    let (said, _) = live_beside(
         rt,
-        || serve_on(
-            rt,
-            alloc,
-            store,
-            listener,
-            control,
-            places,
-            Some(names),
-            &OpenGate,
-            &clock,
-            &times,
-            &mut NobodyTold,
-        ),
-        || clients(rt, alloc, address, &at),
-    );
-    let ServedLife {
-        result,
-        waiting,
-        ..
-    } = served;
-    drop(waiting);
-    let _report = result.map_err(|fault| refusal_of(fault))?;
-    said
+        alloc,
+        new_store(alloc)?,
+        4,
+        Some(names),
+        &OpenGate,
+        &mut NobodyTold,
+        |address, at| clients(rt, alloc, address, &at),
+    )?;
+    Ok(said)
 }
 
 fn names<'a>(alloc: Global, texts: &'a [&'a str]) -> TextNames<'a> {

@@ -1,20 +1,17 @@
 // Links that come and go during a server's life.
-use crate::lives::{new_store, of_socket, refusal_of};
+use crate::lives::{live_beside, new_store, of_socket};
 use crate::names_tests::TextNames;
 use crate::talk::{answer, connect, ends, hears, order, say, starts};
-use lnsd_life::{
-    Monotonic, NO_NAMES, OnBegun, OpenGate, Order, PlaceCount, ServedLife, WATCHING, serve_on,
-};
-use lnsd_operator::DiskTimes;
+use lnsd_life::{NO_NAMES, OnBegun, OpenGate, Order, WATCHING};
 use lw_types::Refusal;
 use std::alloc::Global;
 use std::io::Read;
 use std::net::{Net, Shutdown, SocketAddr, TcpListener, TcpStream};
 use std::os::unix::net;
-use std::os::unix::net::{SocketAddrExt, UnixListener, UnixStream};
+use std::os::unix::net::UnixStream;
 use std::rt::{Clock, Files};
 use std::sync::Wait;
-use std::thread::{Threads, join};
+use std::thread::Threads;
 
 // A gateway, an application, and what they send and receive. The frames were made by a device and a
 // network of another implementation (python/bozintar).
@@ -148,47 +145,24 @@ fn live<R>(rt: &R, alloc: Global) -> Result<(Option<&'static str>, Counts), Refu
 where
     R: Net<Listener = TcpListener, Stream = TcpStream> + Files + Clock + Threads + Wait + Sync,
 {
-    let listener = of_socket(TcpListener::bind(rt, "127.0.0.1:0"))?;
-    let address = of_socket(listener.local_addr())?;
-    let name = format!(in alloc; "bozintar-places-{}", address.port())?;
-    let at = of_socket(net::SocketAddr::from_abstract_name(name.as_bytes()))?;
-    let control = of_socket(UnixListener::bind_addr(rt, &at))?;
-    let clock = of_socket(Monotonic::start(rt))?;
-    let places = PlaceCount::new(4).ok_or(Refusal::Damaged)?;
-    let times = DiskTimes::new();
-    let store = new_store(alloc)?;
     let mut begun = Begun(0);
-    let (served, said) = join(
+    let (said, report) = live_beside(
         rt,
-        || serve_on(
-            rt,
-            alloc,
-            store,
-            listener,
-            control,
-            places,
-            None::<&TextNames>,
-            &OpenGate,
-            &clock,
-            &times,
-            &mut begun,
-        ),
-        || clients(rt, alloc, address, &at),
-    );
-    let ServedLife {
-        result,
-        waiting,
-        ..
-    } = served;
-    drop(waiting);
-    let report = result.map_err(|fault| refusal_of(fault))?;
+        alloc,
+        new_store(alloc)?,
+        4,
+        None::<&TextNames>,
+        &OpenGate,
+        &mut begun,
+        |address, at| clients(rt, alloc, address, &at),
+    )?;
     let counts = (
         report.dropped,
         report.faulted,
         report.taken_over,
         report.made,
     );
-    Ok((wrong(alloc, said?)?, (begun.0, counts)))
+    Ok((wrong(alloc, said)?, (begun.0, counts)))
 }
 
 // The first thing that was received wrongly in a life, which is over.

@@ -72,7 +72,7 @@ impl PlacedBatch {
 impl Table {
     /// Moves the records of a batch into their slots, and the rest of its decisions into this room.
     /// Takes no memory and copies no record. Its cost doesn't grow with the number of devices.
-    pub fn place_all(&mut self, batch: Batch, room: PlacedBatch) -> PlacedBatch
+    pub fn set_all(&mut self, batch: Batch, room: PlacedBatch) -> PlacedBatch
         requires fit { FitAll self.old batch }
         requires empty { room ≡ [] }
         ensures table { self.new ≡ with_decisions self.old batch }
@@ -82,7 +82,7 @@ impl Table {
         for decision in batch.into_vec() {
             let slot = decision.slot;
             let (record, rest) = decision.into_placed();
-            self.place(slot, record);
+            self.set_device(slot, record);
             placed.push(rest);
         }
         placed

@@ -115,7 +115,7 @@ impl Table {
 
     /// Puts a record at a slot: at a slot in use a record of its own device, at the next slot one
     /// of a new device. Takes no memory.
-    pub fn place(&mut self, slot: u16, device: Device)
+    pub fn set_device(&mut self, slot: u16, device: Device)
         requires { CanPlace self.old slot device }
         ensures { self.new ≡ with_record self.old slot device }
     {
@@ -169,8 +169,8 @@ impl Table {
         }
         match self.slot_of(device.dev_eui) {
             Some(other) if other != slot => return Err(Refusal::Damaged),
-            Some(_) => self.place(slot, device),
-            None if at == next => self.place(slot, device),
+            Some(_) => self.set_device(slot, device),
+            None if at == next => self.set_device(slot, device),
             None => self.rename(slot, device)?,
         }
         Ok(())

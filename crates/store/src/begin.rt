@@ -81,7 +81,7 @@ impl<D: Disk> Store<D> {
             return Err(Refusal::OutOfStep);
         }
         let decisions = batch.as_slice();
-        let Some(last) = self.table.continuation_end_behind(earlier, seq, decisions) else {
+        let Some(last) = self.table.continuation_end_after(earlier, seq, decisions) else {
             return Err(Refusal::OutOfStep);
         };
         let room = PlacedBatch::new(alloc)?;

@@ -93,7 +93,7 @@ fn write_log<D: Disk>(disk: D, superblock: &Superblock, checkpoint: Checkpoint) 
     match write_shut(&mut disk, superblock) {
         Ok(next) => {
             let log = Log::new(disk, both_areas(superblock), 1, next, false);
-            publish_behind(log, checkpoint, exchanged(both_areas(superblock)))
+            publish_and_open(log, checkpoint, exchanged(both_areas(superblock)))
         }
         Err(_) => {
             checkpoint.lose();
@@ -114,7 +114,7 @@ fn exchanged(areas: Areas) -> Areas
 
 // Publishes a checkpoint after the superblock's closed gate, and opens that gate. `areas` are those
 // of the log at the end.
-fn publish_behind<D: Disk>(log: Log<D>, checkpoint: Checkpoint, areas: Areas) -> Result<Log<D>, D>
+fn publish_and_open<D: Disk>(log: Log<D>, checkpoint: Checkpoint, areas: Areas) -> Result<Log<D>, D>
     requires exchanged { exchanged_areas (log_state D.state log).areas ≡ areas }
     requires some { 1 ≤ length (D.state (log_disk log)).content }
     requires fits { (log_state D.state log).areas.other.start + length (checkpoint_bytes checkpoint)
@@ -138,13 +138,13 @@ fn publish_behind<D: Disk>(log: Log<D>, checkpoint: Checkpoint, areas: Areas) ->
 {
     let mut log = log;
     match checkpoint.publish(&mut log) {
-        Ok(()) => open_behind(log, areas),
+        Ok(()) => open_superblock(log, areas),
         Err(_) => Err(log.close()),
     }
 }
 
 // Opens the superblock's gate, with a log in these areas after it.
-fn open_behind<D: Disk>(log: Log<D>, areas: Areas) -> Result<Log<D>, D>
+fn open_superblock<D: Disk>(log: Log<D>, areas: Areas) -> Result<Log<D>, D>
     requires areas { (log_state D.state log).areas ≡ areas }
     requires some { 1 ≤ length (D.state (log_disk log)).content }
     ensures done { D.honest → (c : LogContents) → IsAtRest (log_state D.state log) c

@@ -240,7 +240,7 @@ impl<D: Disk> Store<D> {
         ensures batch { durable_decisions result ≡ (sequel_of commit).decisions }
     {
         let Commit { batch, room, last } = commit;
-        let batch = self.table.place_all(batch, room);
+        let batch = self.table.set_all(batch, room);
         self.seq = last;
         Durable { batch }
     }

@@ -19,7 +19,7 @@ use std::alloc::{AllocError, Global};
 use std::fs::File;
 use std::rt::Files;
 use store::{Store, establish_back, open};
-use store_files::{FileCause, FileFault, ReadOnly, create, open_copy, remove_new};
+use store_files::{FileFault, ReadOnly, create, open_copy, open_disk, remove_new};
 
 /// Whether a command only finds out what it would do. Then it writes nothing.
 #[derive(Clone, Copy, Debug, PartialEq, Eq)]
@@ -289,10 +289,7 @@ fn open_for_edit<R: Files<File = File>>(
     alloc: Global,
     file: &str,
 ) -> Result<Store<FileDisk>, EditFault> {
-    match FileDisk::open(rt, file) {
-        Ok(disk) => Ok(open(alloc, disk)?),
-        Err(error) => Err(FileFault::File(FileCause::of_opening(error.kind())).into()),
-    }
+    Ok(open(alloc, open_disk(rt, file)?)?)
 }
 
 // What a table has that a change may end.

@@ -2,6 +2,7 @@
 use crate::FileCause;
 use lw_types::{Eui, Refusal};
 use std::alloc::AllocError;
+use std::io;
 
 /// Why a store's file can't be made, copied or restored.
 #[derive(Drop)]
@@ -20,6 +21,19 @@ pub enum FileFault {
     Spent(Eui),
     /// The store refused, its disk failed, or memory ran out.
     Refused(Refusal),
+}
+
+impl FileFault {
+    ghost use Rattle.std.specs.Prelude.{◌≡◌};
+    ghost use Rattle.std.specs.IoError.{error_kind};
+    ghost use Rattle.store_files.specs.Cause.{cause_of_opening};
+
+    /// Why a file can't be opened, by the system's error.
+    pub fn of_opening(error: io::Error) -> Self
+        ensures { result ≡ FileFault.File (cause_of_opening (error_kind error)) }
+    {
+        FileFault::File(FileCause::of_opening(error.kind()))
+    }
 }
 
 impl From<Refusal> for FileFault {

@@ -6,19 +6,19 @@ ghost use Rattle.sessions.specs.Restored.{raised_by_all, restored_table, spent_d
 ghost use Rattle.sessions.specs.Table.{TableState};
 ghost use Rattle.store_files.specs.Report.{IsRestoredAs, restored_text};
 
+use crate::FileFault;
 use crate::new_file::{create, remove_new};
-use crate::read_only::ReadOnly;
+use crate::opening::open_copy;
 use crate::record::{NonceFile, Record, are_beside, is_record_name};
 use crate::report::report_of;
-use crate::{FileCause, FileFault};
 use devices::{Device, GrantsSince, SessionName};
-use disk::{Disk, FileDisk};
+use disk::FileDisk;
 use lw_types::Refusal;
 use sessions::Table;
 use std::alloc::Global;
 use std::fs::File;
 use std::rt::Files;
-use store::{Store, establish_back, open};
+use store::{Store, establish_back};
 
 /// What is to be restored.
 #[derive(Clone, Copy)]
@@ -178,18 +178,5 @@ fn restored(raised: Table, since: GrantsSince) -> Result<Table, FileFault>
     match table.restore(since) {
         Ok(()) => Ok(table),
         Err(dev_eui) => Err(FileFault::Spent(dev_eui)),
-    }
-}
-
-/// The store of a copy. An opening reads from the copy's file and writes nothing there. So the
-/// superblock and the length are checked first, and memory holds only the table.
-pub fn open_copy<R: Files<File = File>>(
-    rt: &R,
-    alloc: Global,
-    file: &str,
-) -> Result<Store<ReadOnly<FileDisk>>, FileFault> {
-    match FileDisk::open(rt, file) {
-        Ok(disk) => Ok(open(alloc, ReadOnly::new(disk))?),
-        Err(error) => Err(FileFault::File(FileCause::of_opening(error.kind()))),
     }
 }

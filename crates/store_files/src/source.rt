@@ -1,7 +1,7 @@
 // Bytes that somebody else may write while they are read.
 ghost use Rattle.std.specs.Prelude.{◌≡◌, ◌≤◌, ◌+◌, ℕ, List, length, take, drop, OnOk};
 
-use crate::{FileCause, FileFault};
+use crate::FileFault;
 use disk::DeviceFailed;
 use std::fs::{File, OpenOptions};
 use std::io;
@@ -41,10 +41,7 @@ pub struct StoreFile {
 impl StoreFile {
     /// Opens the file of a store for reading.
     pub fn open<R: Files<File = File>>(rt: &R, path: &str) -> Result<Self, FileFault> {
-        match opened(rt, path) {
-            Ok(file) => Ok(file),
-            Err(error) => Err(FileFault::File(FileCause::of_opening(error.kind()))),
-        }
+        opened(rt, path).map_err(FileFault::of_opening)
     }
 }
 

@@ -170,7 +170,7 @@ def test_silent_strangers(server: Program) -> None:
 
 def test_reload(server: Program, names: Path) -> None:
     """A list that was changed is read again by `lnsd reload`: a new name may connect, and the link
-    of a name that isn't there any more is closed."""
+    of a name that isn't there any more is closed, of a gateway and of an application."""
     assert server.address
     with Gateway(server.address, EUI) as first, Application(server.address, OWNER) as application:
         await_status(server, links=2, gateways=1, applications=1)
@@ -182,6 +182,9 @@ def test_reload(server: Program, names: Path) -> None:
             assert not is_closed(second, 0)
         application.asks("hello")
         assert application.hears() == "refused 51"
+        names.write_text(f"gateway {OTHER}\n", encoding="utf-8")
+        assert server.run("reload", server.store) == (0, "", "")
+        assert is_closed(application)
     with Gateway(server.address, EUI) as first:
         assert is_closed(first)
     await_status(server, unlisted=1, links=0)

@@ -26,7 +26,7 @@ impl Table {
     {
         self.has_slot(decision)
             && is_record(&decision.before, self.devices().get(decision.slot as usize))
-            && self.has_place(decision)
+            && self.has_room_for(decision)
     }
 
     // Whether the decision is of this network, at one of its slots.
@@ -38,7 +38,7 @@ impl Table {
     }
 
     // Whether the record that the decision leaves has its place in this table.
-    fn has_place(&self, decision: &Decision) -> bool
+    fn has_room_for(&self, decision: &Decision) -> bool
         ensures { IsTrue result ↔ HasPlace self.now decision.now.slot decision.now.after
             decision.now.before }
     {
@@ -77,7 +77,7 @@ impl Table {
         requires copy { after ≡ decision.now.after }
         ensures { self.new ≡ with_decision self.old decision.now }
     {
-        self.place(decision.slot, after);
+        self.set_device(decision.slot, after);
     }
 }
 

@@ -18,7 +18,7 @@ impl Table {
     /// those before it leave: the record is looked up among its own batch, then among the earlier
     /// ones, then in the table. Takes no memory. The cost grows with the number of decisions times
     /// that of both runs together, and not with the number of devices.
-    pub fn continuation_end_behind(
+    pub fn continuation_end_after(
         &self,
         earlier: &[Decision],
         seq: u64,
@@ -32,7 +32,7 @@ impl Table {
     {
         let mut last = seq;
         for (at, decision) in decisions.iter().enumerate() {
-            if !self.admits_behind(earlier, &decisions[..at], last, decision) {
+            if !self.admits_after(earlier, &decisions[..at], last, decision) {
                 return None;
             }
             last = decision.seq;
@@ -42,7 +42,7 @@ impl Table {
 
     // Whether the decision was made of what the earlier ones, and then those of its own batch,
     // leave of this table, and has the number after `seq`.
-    fn admits_behind(
+    fn admits_after(
         &self,
         earlier: &[Decision],
         own: &[Decision],
@@ -54,12 +54,12 @@ impl Table {
         ensures { IsTrue result ↔ Continues
             (with_decisions (with_decisions self.now earlier.now) own.now) seq decision.now }
     {
-        seq < decision.seq && decision.seq - seq == 1 && self.fits_behind(earlier, own, decision)
+        seq < decision.seq && decision.seq - seq == 1 && self.fits_after(earlier, own, decision)
     }
 
     // Whether the decision was made of what the two runs leave of this table.
     #[tactic(auto, using(crate::proofs::Placing::same_net, crate::proofs::Placing::same_slots))]
-    fn fits_behind(&self, earlier: &[Decision], own: &[Decision], decision: &Decision) -> bool
+    fn fits_after(&self, earlier: &[Decision], own: &[Decision], decision: &Decision) -> bool
         requires earlier { FitAll self.now earlier.now }
         requires own { FitAll (with_decisions self.now earlier.now) own.now }
         ensures { IsTrue result ↔ FitsTable
@@ -68,14 +68,14 @@ impl Table {
         self.has_slot(decision)
             && is_record(
                 &decision.before,
-                self.device_behind(earlier, own, decision.slot),
+                self.device_after_runs(earlier, own, decision.slot),
             )
-            && self.has_place_behind(earlier, own, decision)
+            && self.has_room_after(earlier, own, decision)
     }
 
     // Whether the record that the decision leaves has its place in what the two runs leave of this
     // table, if it was made of the record there.
-    fn has_place_behind(&self, earlier: &[Decision], own: &[Decision], decision: &Decision) -> bool
+    fn has_room_after(&self, earlier: &[Decision], own: &[Decision], decision: &Decision) -> bool
         requires earlier { FitAll self.now earlier.now }
         requires own { FitAll (with_decisions self.now earlier.now) own.now }
         requires found { decision.now.before ≡ slice_get
@@ -88,12 +88,12 @@ impl Table {
         self.devices_are_apart();
         match &decision.before {
             Some(_) => true,
-            None => self.takes_next_behind(earlier, own, decision.slot, &decision.after),
+            None => self.takes_next_after(earlier, own, decision.slot, &decision.after),
         }
     }
 
     // What the two runs leave at a slot of this table.
-    fn device_behind<'a>(
+    fn device_after_runs<'a>(
         &'a self,
         earlier: &'a [Decision],
         own: &'a [Decision],
@@ -110,7 +110,7 @@ impl Table {
 
     // Whether a new device with this record may have this slot of what the two runs leave.
     #[tactic(auto, using(crate::proofs::Placing::same_slots))]
-    fn takes_next_behind(
+    fn takes_next_after(
         &self,
         earlier: &[Decision],
         own: &[Decision],
@@ -124,11 +124,11 @@ impl Table {
     {
         slot as usize == len_after(len_after(self.devices().len(), earlier), own)
             && u64::from(slot) < self.slots().get()
-            && self.is_new_behind(earlier, own, device.dev_eui)
+            && self.is_new_after_runs(earlier, own, device.dev_eui)
     }
 
     // Whether no device has this DevEUI in what the two runs leave of this table.
-    fn is_new_behind(&self, earlier: &[Decision], own: &[Decision], dev_eui: Eui) -> bool
+    fn is_new_after_runs(&self, earlier: &[Decision], own: &[Decision], dev_eui: Eui) -> bool
         requires earlier { FitAll self.now earlier.now }
         requires own { FitAll (with_decisions self.now earlier.now) own.now }
         ensures { IsTrue result ↔ (slot_of dev_eui.0

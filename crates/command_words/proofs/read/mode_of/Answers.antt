@@ -11,5 +11,7 @@ returns-in_default-get_str c =
     (command_met c.args.matches.now word word (rows_of found) refl c.in-Some.ensures.name c.in-Some.ensures.rows)
     (no_file word (rows_of found) (text_missed found (codes "file") (search rules)))
 
-pub asked_mode-requires : goal.asked_mode-requires
-asked_mode-requires c = text_met (found_of c.in-Some.matches.now) (codes "file") c.in-Some-get_str.file.now c.in-Some-get_str.ensures
+pub invariant_of-mode : goal.invariant_of-mode
+invariant_of-mode c = record {
+  is_found = text_met (found_of c.in-Some.matches.now) (codes "file") c.in-Some-get_str.file.now c.in-Some-get_str.ensures;
+}

@@ -1,4 +1,4 @@
-use Rattle.std.proofs.Common.{◌≡◌, ℕ, Result, IfOk, MatchResult, length, sum, sym, subst}
+use Rattle.std.proofs.Common.{◌≡◌, ℕ, Result, IfOk, MatchResult, OnOk, length, sum, sym, subst}
 use Rattle.lw_types.specs.declared.refusal.Refusal.{Refusal}
 use Rattle.lnsd_life.specs.Served.{IsUntold}
 use Rattle.lnsd_life.specs.declared.report.LifeReport.{LifeReport}
@@ -29,14 +29,15 @@ returns-clause-workers g c =
     ]
 
 -- what is reported of how a life ended
-abbrev IsTold : Result ℕ Refusal → Result LifeReport ServeFault → Type 0
-IsTold ended result = IfOk ended (λ taken. MatchResult result (λ report. report.made ≡ taken) IsUntold)
+abbrev IsTold : ℕ → Result (Unit {0}) Refusal → Result LifeReport ServeFault → Type 0
+IsTold taken ended result = OnOk ended (MatchResult result (λ report. report.made ≡ taken) IsUntold)
 
 pub returns-clause-told : goal.returns-clause-told
 returns-clause-told g c =
+    let taken = length c.args.end.known in
     elim c.match-result.branch [
       | in-Ok w ↦
-          subst (IsTold c.args.end.result) (sym w.result-is)
-          (subst (λ ended. IsTold ended w.report-result.result) (sym w.in-Ok.is) w.report-result.ensures.told)
-      | in-Err w ↦ subst (λ ended. IsTold ended c.match-result.result) (sym w.in-Err.is) (tt {0})
+          subst (IsTold taken c.args.end.result) (sym w.result-is)
+          (subst (λ ended. IsTold taken ended w.report-result.result) (sym w.in-Ok.is) w.report-result.ensures.told)
+      | in-Err w ↦ subst (λ ended. IsTold taken ended c.match-result.result) (sym w.in-Err.is) (tt {0})
     ]

@@ -1,4 +1,4 @@
--- Those that are behind locks, and those that are left.
+-- Those that are under locks, and those that are left.
 use Rattle.std.proofs.Common.{◌≡◌, ◌++◌, map}
 use Rattle.lnsd_links.specs.declared.rings.OwnRing.{OwnRing}
 use Rattle.lnsd_links.specs.declared.rings.WaitingLines.{WaitingLines}

@@ -1,7 +1,7 @@
 use Rattle.std.proofs.Common.{◌≡◌, ◌+◌, ◌++◌, ◌∷◌, ◌∙◌, List, [], ap, arith, inl, length, length-append, append_assoc, sym, ℕ}
 use Rattle.std.proofs.lemmas.Bool.{false≢true}
 use Rattle.devices.specs.declared.effect.Effect.{Effect}
-use Rattle.lnsd_links.specs.Sending.{effect_frame}
+use Rattle.gateway_wire.specs.Emission.{effect_frame}
 use Rattle.lnsd_links.proofs.Together.{added_one, lost_one}
 use Rattle.outbox.specs.Ring.{taken_from}
 use Rattle.lnsd_links.proofs.gathering.gather.Goals as goal
@@ -11,10 +11,10 @@ pub loop-turn-preserved : goal.loop-turn-preserved
 loop-turn-preserved c =
     let (effects, (bytes, (taken, (count, (out, together))))) = c.loop-turn.invariant.0 in
     let effect = c.in-Some.effect in
-    let behind = λ (es : List Effect). es ++ effect ∷ [] in
+    let after = λ (es : List Effect). es ++ effect ∷ [] in
     let framed = λ (bs : List ℕ). bs ++ effect_frame effect in
     let taken' : taken_from c.take.new.self ≡ taken_from c.args.inlet.now ++ (effects ++ effect ∷ []) =
-    c.in-Some.ensures.taken ∙ (ap behind taken ∙ append_assoc _ effects (effect ∷ [])) in
+    c.in-Some.ensures.taken ∙ (ap after taken ∙ append_assoc _ effects (effect ∷ [])) in
     let count' : c.loop-turn.taken + 1 ≡ length (effects ++ effect ∷ []) = omega (arith, count, length-append effects (effect ∷ [])) in
     elim c.if-not-is_put.branch [
       | then-not-is_put w ↦ (

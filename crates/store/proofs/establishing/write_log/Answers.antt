@@ -23,9 +23,9 @@ returns-in-Ok-clause-done g c honest header records is first =
     let at = c.new-log.ensures.log ∙ (λ i. record { disk = state; areas = c.both_areas.ensures i; next = c.in-Ok.ensures.next i; generation = 1; other_open = false }) in
     let rest = subst (λ (s : LogState). IsAtRest s (shut_contents slots state.content)) (sym at)
     (empty_at_rest c.a_closed_area_is_older.ensures slots state (c.in-Ok.ensures.settled honest) long (c.in-Ok.ensures.area honest) (c.in-Ok.ensures.other_area honest)) in
-    subst (λ (x : LogContents). IfOk c.publish_behind.result (λ log. IsAtRest (log_state g.D.Disk.state log) x))
+    subst (λ (x : LogContents). IfOk c.publish_and_open.result (λ log. IsAtRest (log_state g.D.Disk.state log) x))
     (first_is net_id slots state.content header records long (c.in-Ok.ensures.body honest))
-    (c.publish_behind.ensures.done honest (shut_contents slots state.content) header records rest (behind_shut slots state (c.in-Ok.ensures.shut honest)) is
+    (c.publish_and_open.ensures.done honest (shut_contents slots state.content) header records rest (behind_shut slots state (c.in-Ok.ensures.shut honest)) is
     (follows slots state.content header records first))
 
 pub returns-in-Ok-clause-images : goal.returns-in-Ok-clause-images
@@ -39,8 +39,8 @@ returns-in-Ok-clause-images g c honest nothing header records is first =
     let rest = subst (λ (s : LogState). IsAtRest s (shut_contents slots state.content)) (sym at)
     (empty_at_rest c.a_closed_area_is_older.ensures slots state (c.in-Ok.ensures.settled honest) long (c.in-Ok.ensures.area honest) (c.in-Ok.ensures.other_area honest)) in
     let c' = contents_with_checkpoint (shut_contents slots state.content) header records in
-    IfErr-map c.publish_behind.result
+    IfErr-map c.publish_and_open.result
     (λ left every image permitted. to_first c' (first_contents net_id slots header records) old image
     (first_is net_id slots state.content header records long (c.in-Ok.ensures.body honest)) (every image permitted))
-    (c.publish_behind.ensures.images honest (shut_contents slots state.content) header records rest (behind_shut slots state (c.in-Ok.ensures.shut honest)) is
+    (c.publish_and_open.ensures.images honest (shut_contents slots state.content) header records rest (behind_shut slots state (c.in-Ok.ensures.shut honest)) is
     (follows slots state.content header records first))

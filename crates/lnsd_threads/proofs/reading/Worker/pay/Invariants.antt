@@ -3,4 +3,4 @@ use Rattle.std.proofs.Common.{◌≡◌}
 use Rattle.lnsd_threads.proofs.reading.Worker.pay.Given as goal
 
 abbrev pub invariant-loop : goal.invariant-loop
-invariant-loop g l = (l.allowance ≡ l.initial.allowance) × (l.self ≡ l.initial.self)
+invariant-loop g l = l.self ≡ l.initial.self

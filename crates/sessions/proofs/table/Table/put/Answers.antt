@@ -24,12 +24,12 @@ next_place t slot device last room new =
     subst (λ (o : Option Device). MatchOption o ((slot ≡ length t.devices) × (slot < t.slots) × (slot_of device.dev_eui.0 t.devices ≡ None)) (λ old. old.dev_eui ≡ device.dev_eui))
     (sym (slice_get_past t.devices slot (omega arith))) (last, room, new)
 
-pub place-requires : goal.place-requires
-place-requires c =
+pub set_device-requires : goal.set_device-requires
+set_device-requires c =
     let same : c.in-Some.other ≡ c.args.slot = omega arith in
     own_place c.args.self.now c.args.slot c.args.device (sym c.in-Some.ensures ∙ ap Some same)
 
-pub place-requires-in-None : goal.place-requires-in-None
-place-requires-in-None c =
+pub set_device-requires-in-None : goal.set_device-requires-in-None
+set_device-requires-in-None c =
     let long = ap length c.devices-next.ensures.devices in
     next_place c.args.self.now c.args.slot c.args.device (omega arith) (omega arith) (sym c.in-None.ensures)
