@@ -163,6 +163,16 @@ class File(Generic[T]):
             self.content = lines.read(self.reader(self.path))
             self.stamp = stamp
 
+    def try_to_read(self) -> None:
+        """Reads it, if there is one. A fault is only logged, as `look` does."""
+        try:
+            self.read()
+        except FileNotFoundError:
+            pass  # `look` logs it
+        except (OSError, ValueError) as why:
+            self.stamp = self.now()
+            self.warn_of(why)
+
     async def look(self) -> bool:
         """Reads the file if it has changed; whether the content has."""
         if not self.path:
@@ -176,11 +186,15 @@ class File(Generic[T]):
         try:
             self.content = await lines.read_on(self.reader(self.path))
         except (OSError, ValueError) as why:
-            self.seldom.warn(str(why), f"{why}: the file isn't read, and what it had goes on")
+            self.warn_of(why)
             return False
         if self.is_logged:
             log(f"{self.path} is read")
         return True
+
+    def warn_of(self, why: Exception) -> None:
+        """Logs a fault of the file."""
+        self.seldom.warn(str(why), f"{why}: the file isn't read, and what it had goes on")
 
 
 class Routes:
@@ -205,6 +219,7 @@ class Routes:
         files: tuple[File[Any], ...] = (self.stores_file, self.devices_file, self.hearing_file)
         for file in files:
             file.read()
+        self.sessions_file.try_to_read()
         self.sort()
 
     @property

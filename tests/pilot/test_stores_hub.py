@@ -19,8 +19,8 @@ from .stores import Stores, downlink_to, frame_of, join_request, uplink
 
 ONE, OTHER = GATEWAYS[:2]
 ANSWER = b"\x60" + bytes(11)
-# a hub looks at its files once a second, and a link that has been unused for a second gives way
-LOOK, HOLD = 1.0, 1.0
+# a link that has been unused for a second gives way to another one
+HOLD = 1.0
 
 
 class Hubbed:
@@ -204,7 +204,6 @@ def test_strangers(hubbed: Hubbed, stores: Stores) -> None:
     that is open it is handed in."""
     sessions = stores.replace("sessions", f"d00 0 {FIRST} 1 1 0 0 0 1\nd00 now 7\n")
     hubbed.start("--sessions", sessions, "--names", 1)
-    stores.links_none("d00", seconds=LOOK)
     hubbed.hears(uplink(0, b"of another network", slot=9, join_nonce=99))
     stores.links_none("d00", seconds=0.5)
     hubbed.hears(uplink(0, b"own"))

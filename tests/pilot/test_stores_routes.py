@@ -155,9 +155,7 @@ def test_hearing(made: Routes, tmp_path: Path) -> None:
 def listed(tmp_path: Path) -> Routes:
     """Stores of which one is listed."""
     sessions = written(tmp_path, "sessions", LISTED)
-    found = Routes(written(tmp_path, "stores", STORES), sessions=sessions)
-    asyncio.run(found.look())
-    return found
+    return Routes(written(tmp_path, "stores", STORES), sessions=sessions)
 
 
 @pytest.mark.parametrize("slot, nonce, due", SESSIONS)
@@ -176,13 +174,20 @@ def test_old_list(listed: Routes) -> None:
         assert listed.may_have("d00", frame) == due
 
 
-def test_list_with_a_fault(tmp_path: Path) -> None:
-    """A list with a fault, or none, refuses no frame."""
+def test_list_with_a_fault(tmp_path: Path, capfd: Any) -> None:
+    """A list with a fault, or none, refuses no frame, and a line says why."""
     found = Routes(written(tmp_path, "stores", STORES), sessions=str(tmp_path / "sessions"))
     for text in ("", "d00 0 x\n"):
         asyncio.run(found.look())
         assert found.may_have("d00", uplink(100))
         written(tmp_path, "sessions", text)
+    capfd.readouterr()
+    found = Routes(str(tmp_path / "stores"), sessions=str(tmp_path / "sessions"))
+    fault = f"{tmp_path / 'sessions'}, line 1: it isn't NAME"
+    assert fault in capfd.readouterr().out, "at the start, too"
+    assert found.may_have("d00", uplink(100))
+    asyncio.run(found.look())
+    assert fault not in capfd.readouterr().out, "once"
 
 
 def test_file_is_read_again(made: Routes, tmp_path: Path, capfd: Any) -> None:
