@@ -14,7 +14,7 @@ from bozintar.links import Application
 from bozintar.processes import HOST, Process, Processes, await_that, free_port
 from bozintar.words import Address
 
-from .clusters import LEASE, LONG, Cluster, Kept, answers, await_said, status_of
+from .clusters import DEVICE, LEASE, LONG, SLOTS, Cluster, Kept, answers, await_said, status_of
 
 # a program that is lnsd, and takes a while to run
 SLOW = """#!/bin/sh
@@ -130,6 +130,24 @@ def test_after_a_clean_end(served: tuple[Kept, str, Process]) -> None:
     last = f"the store was served last from {moved} on two, and didn't end well"
     assert kept.refused(file) == f"another copy: {last}"
     assert kept.stop(kept.serves(moved, machine="two")) == 3
+
+
+def test_changed_devices(served: tuple[Kept, str, Process]) -> None:
+    """A file whose devices were changed after a clean end, or that `lnsd grow` made, is served by
+    the operator's word alone."""
+    kept, file, keeper = served
+    kept.decide()
+    number, larger = kept.stop(keeper), kept.file("larger")
+    subprocess.run([kept.program, "retire", file, DEVICE.format(1)], check=True)
+    due = f"another copy, at {number + 1}: the store ended well at {number}"
+    assert kept.refused(file) == due
+    assert kept.stores("replace", kept.name, file, 1)[0] == 0
+    assert kept.stop(kept.serves(file)) == number + 1
+    subprocess.run([kept.program, "grow", file, larger, "--slots", str(2 * SLOTS)], check=True)
+    assert kept.refused(larger).startswith("another copy, ")
+    assert kept.stores("replace", kept.name, larger, 2)[0] == 0
+    keeper = kept.serves(larger)
+    assert kept.decide() == kept.stop(keeper)
 
 
 def test_other_bytes_at_the_same_number(served: tuple[Kept, str, Process]) -> None:

@@ -10,6 +10,7 @@ from bozintar.processes import command
 
 from .parts import PILOT
 
+DOCS = PILOT.parent / "docs"
 RULES = (PILOT / "alerts.yml").read_text(encoding="utf-8")
 ALERTS = re.findall(r"- alert: (\w+)", RULES)
 # samples, the time between two of them, and the moment at which alerts are looked at: an alert may
@@ -191,6 +192,12 @@ def test_alerts(folder: Path) -> None:
 def test_each_alert() -> None:
     """No alert is left out above."""
     assert {name for name, _ in WRONG if name} == set(ALERTS)
+
+
+def test_what_an_alert_means() -> None:
+    """The operator's page names each alert."""
+    page = (DOCS / "OPERATING.md").read_text(encoding="utf-8")
+    assert [name for name in ALERTS if f"`{name}`" not in page] == []
 
 
 def test_rules() -> None:

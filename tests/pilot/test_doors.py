@@ -35,7 +35,7 @@ from .doors import (
     refused_by_broker,
 )
 from .field import APPLICATION, GATEWAYS
-from .parts import Pilot, program_of_pilot
+from .parts import Pilot, program_of_pilot, run
 from .rows import table
 from .whole import Dashboard
 
@@ -233,6 +233,20 @@ def test_revoked_certificate(pilot: Pilot) -> None:
     doors.open_broker()
     assert refused_by_broker(doors.broker_port, old)
     assert not refused_by_broker(doors.broker_port, doors.own.context(PLACE))
+
+
+def test_authoritys_key_is_away(folder: Path) -> None:
+    """While ca.key is kept elsewhere nothing is made or revoked. The message asks for this file, and
+    not for another authority."""
+    place = folder / "own"
+    assert run("secure/certificates", place, "authority")[0] == 0
+    (place / "ca.key").rename(folder / "ca.key")
+    for words in (("application", "3"), ("revoke", "application-3")):
+        due = f"certificates: {place} has no ca.key; bring back the key of its authority\n"
+        assert run("secure/certificates", place, *words)[::2] == (1, due)
+    (place / "ca.crt").unlink()
+    due = f"certificates: {place} has no ca.key; make the authority first\n"
+    assert run("secure/certificates", place, "revoke")[::2] == (1, due)
 
 
 @pytest.mark.parametrize("is_revoked", (False, True))
