@@ -137,12 +137,13 @@ def test_changed_devices(served: tuple[Kept, str, Process]) -> None:
     the operator's word alone."""
     kept, file, keeper = served
     kept.decide()
-    number, larger = kept.stop(keeper), kept.file("larger")
-    subprocess.run([kept.program, "retire", file, DEVICE.format(1)], check=True)
-    due = f"another copy, at {number + 1}: the store ended well at {number}"
+    device, larger = DEVICE.format(kept.count), kept.file("larger")
+    number = kept.stop(keeper)
+    subprocess.run([kept.program, "retire", file, device], check=True)
+    due = f"another copy, at {number}: the store ended well at {number}"
     assert kept.refused(file) == due
     assert kept.stores("replace", kept.name, file, 1)[0] == 0
-    assert kept.stop(kept.serves(file)) == number + 1
+    assert kept.stop(kept.serves(file)) == number
     subprocess.run([kept.program, "grow", file, larger, "--slots", str(2 * SLOTS)], check=True)
     assert kept.refused(larger).startswith("another copy, ")
     assert kept.stores("replace", kept.name, larger, 2)[0] == 0

@@ -13,7 +13,11 @@ from bozintar.words import folder, between, stop
 from speeds.measure import machine
 
 # the C library's allocator, as bin/lnsd sets it
-ALLOCATOR = {"MALLOC_ARENA_MAX": "1", "MALLOC_MMAP_THRESHOLD_": "1048576"}
+ALLOCATOR = {
+    "MALLOC_ARENA_MAX": "1",
+    "MALLOC_MMAP_THRESHOLD_": "1048576",
+    "MALLOC_TRIM_THRESHOLD_": "2097152",
+}
 DEVICES, GATEWAYS, APPLICATIONS = 4096, 8, 4
 
 
