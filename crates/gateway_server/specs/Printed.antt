@@ -1,5 +1,5 @@
 -- What the server's own commands print, once they are done.
-use Rattle.std.specs.Prelude.{◌≡◌, ℕ, Bool, true, false, List, Result, IfOk}
+use Rattle.std.specs.Prelude.{◌≡◌, ◌++◌, ◌∷◌, [], ℕ, Bool, true, false, List, Result, IfOk}
 use Rattle.gateway_wire.specs.DeviceList.{last_line, list_text}
 use Rattle.sessions.specs.Table.{TableState}
 use Rattle.device_lists.specs.Export.{csv_text}
@@ -26,10 +26,16 @@ PrintsOfEdit (edit.Export file keys) text =
     (table : TableState) × (text ≡ csv_text (keys_shown keys) table.devices)
 PrintsOfEdit other text = (counts : EditCounts) × (text ≡ counts_text counts)
 
--- `list` prints the devices of some table, with a number. `copy` prints the last line of such a
--- list. `restore` prints what is said of some table that was restored with this number of grants.
--- About the text of other commands nothing is said here.
+-- whole lines, at least one
+abbrev pub AreLines : List ℕ → Type 0
+AreLines text = (front : List ℕ) × (text ≡ front ++ 10 ∷ [])
+
+-- `status` and `devices` print whole lines. `list` prints the devices of some table, with a number.
+-- `copy` prints the last line of such a list. `restore` prints what is said of some table that was
+-- restored with this number of grants. About the text of other commands nothing is said here.
 abbrev pub Prints : Mode → List ℕ → Type 0
+Prints (mode.Status file wait) text = AreLines text
+Prints (mode.Devices file) text = AreLines text
 Prints (mode.List file) text =
     (table : TableState) × ((seq : ℕ) × (text ≡ list_text table.devices seq))
 Prints (mode.Copy file new) text =
