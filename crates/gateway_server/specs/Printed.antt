@@ -26,16 +26,16 @@ PrintsOfEdit (edit.Export file keys) text =
     (table : TableState) × (text ≡ csv_text (keys_shown keys) table.devices)
 PrintsOfEdit other text = (counts : EditCounts) × (text ≡ counts_text counts)
 
--- whole lines, at least one
-abbrev pub AreLines : List ℕ → Type 0
-AreLines text = (front : List ℕ) × (text ≡ front ++ 10 ∷ [])
+-- lines, of which the last one is whole
+abbrev pub EndsWithALine : List ℕ → Type 0
+EndsWithALine text = (front : List ℕ) × (text ≡ front ++ 10 ∷ [])
 
 -- `status` and `devices` print whole lines. `list` prints the devices of some table, with a number.
 -- `copy` prints the last line of such a list. `restore` prints what is said of some table that was
 -- restored with this number of grants. About the text of other commands nothing is said here.
 abbrev pub Prints : Mode → List ℕ → Type 0
-Prints (mode.Status file wait) text = AreLines text
-Prints (mode.Devices file) text = AreLines text
+Prints (mode.Status file wait) text = EndsWithALine text
+Prints (mode.Devices file) text = EndsWithALine text
 Prints (mode.List file) text =
     (table : TableState) × ((seq : ℕ) × (text ≡ list_text table.devices seq))
 Prints (mode.Copy file new) text =

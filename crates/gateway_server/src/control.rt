@@ -1,7 +1,7 @@
 // The control socket beside a store's file: the server listens there, and operators connect.
 ghost use Rattle.std.specs.Prelude.{◌≡◌, ◌≢◌, ◌++◌, ◌∷◌, [], IfErr, IfOk, MatchResult, OnErr};
 ghost use Rattle.std.specs.Prelude.{codes, string_bytes};
-ghost use Rattle.gateway_server.specs.Printed.{AreLines};
+ghost use Rattle.gateway_server.specs.Printed.{EndsWithALine};
 
 use crate::Fault;
 use lnsd_life::{BUSY, NO_NAMES, Order, RELOADED, WATCHING};
@@ -159,7 +159,7 @@ pub(crate) fn status<R: Files + Net + Clock>(
     file: &str,
     wait: u64,
 ) -> Result<String, Fault>
-    ensures { IfOk result (λ text. AreLines (string_bytes text)) }
+    ensures { IfOk result (λ text. EndsWithALine (string_bytes text)) }
 {
     let mut stream = connect_to(rt, alloc, file);
     for _ in 0..wait.saturating_mul(TRIES) {
@@ -175,7 +175,7 @@ pub(crate) fn status<R: Files + Net + Clock>(
 
 /// The devices of the store in a file, by the server that runs on it.
 pub(crate) fn devices<R: Files + Net>(rt: &R, alloc: Global, file: &str) -> Result<String, Fault>
-    ensures { IfOk result (λ text. AreLines (string_bytes text)) }
+    ensures { IfOk result (λ text. EndsWithALine (string_bytes text)) }
 {
     unbroken(ask(alloc, connect_to(rt, alloc, file)?, Order::Devices)?)
 }
@@ -185,7 +185,7 @@ pub(crate) fn devices<R: Files + Net>(rt: &R, alloc: Global, file: &str) -> Resu
 fn unbroken(answer: String) -> Result<String, Fault>
     ensures { MatchResult result
         (λ text. (string_bytes answer ≡ string_bytes text ++ 10 ∷ [])
-        × AreLines (string_bytes text))
+        × EndsWithALine (string_bytes text))
         (λ fault. fault ≡ Fault.BrokenOff) }
 {
     let mut text = answer;
