@@ -1,8 +1,8 @@
 //! Changes of the devices of a table while its store isn't served: devices are imported, amended
 //! and retired, and a table grows.
 //!
-//! Each call makes another table and leaves the old one as it is. The crate `store_edits` puts such a
-//! table into a store.
+//! Each call makes another table and leaves the old one as it is. The crate `store_edits` puts such
+//! a table into a store.
 #![tactic(auto)]
 
 mod change;
