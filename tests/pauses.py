@@ -1,17 +1,52 @@
 """Pauses of the machine."""
 
+import os
 import threading
 import time
+from pathlib import Path
 from typing import Any
 
-# how long the machine may pause in a trial, in seconds
-MOST = 0.1
+# how long the machine may keep a process of a trial waiting, and how often that is read, in seconds
+MOST, EACH = 0.1, 0.25
+TICKS = os.sysconf("SC_CLK_TCK")
+STOLEN = "stolen"
+
+
+def family(pid: int) -> list[Path]:
+    """The threads of a process, and of all that it started."""
+    found: list[Path] = []
+    try:
+        tasks = list(Path(f"/proc/{pid}/task").iterdir())
+    except OSError:  # it has ended
+        return found
+    for task in tasks:
+        found.append(task)
+        for child in read(task / "children").split():
+            found += family(int(child))
+    return found
+
+
+def read(file: Path) -> str:
+    """A file of the system; nothing if its thread has ended."""
+    try:
+        return file.read_text(encoding="ascii")
+    except OSError:
+        return ""
+
+
+def waits() -> dict[str, float]:
+    """For how many seconds each thread of this process, and of all that it started, had to wait for
+    a processor so far; and for how many the host took processors from this machine."""
+    found = {STOLEN: int(read(Path("/proc/stat")).split()[8]) / TICKS}
+    for task in family(os.getpid()):
+        _, waited, *_ = read(task / "schedstat").split() or ("0", "0")
+        found[task.name] = int(waited) / 1e9
+    return found
 
 
 class Pauses:
-    """How long this process was kept from running at most. A pause is as long as a window, or
-    longer: copies of one frame may come too late for each other then, and a time that is compared
-    says nothing of the server."""
+    """How long a process of the trial was kept from running at most, within a quarter of a second.
+    If it was long, a limit of time that was exceeded says nothing of the program."""
 
     def __init__(self) -> None:
         self.longest, self.is_over = 0.0, threading.Event()
@@ -19,14 +54,17 @@ class Pauses:
 
     def look(self) -> None:
         """Notes the longest pause."""
-        while True:
+        before, is_over = waits(), False
+        while not is_over:
             begun = time.monotonic()
-            if self.is_over.wait(0.01):
-                return
-            self.longest = max(self.longest, time.monotonic() - begun - 0.01)
+            is_over = self.is_over.wait(EACH)
+            late = 0.0 if is_over else time.monotonic() - begun - EACH
+            now = waits()
+            found = (waited - before.get(name, 0.0) for name, waited in now.items())
+            self.longest, before = max(self.longest, late, *found), now
 
     def is_spoilt(self) -> bool:
-        """Whether a failure meanwhile says nothing."""
+        """Whether a limit of time that was exceeded says nothing."""
         return self.longest >= MOST
 
     def __enter__(self) -> "Pauses":

@@ -1,4 +1,5 @@
-"""The ports that trials listen on. Each worker of pytest-xdist has a range of its own."""
+"""The ports that trials listen on, and the processors that they run on. Each worker of pytest-xdist
+has its own."""
 
 import os
 
@@ -6,12 +7,26 @@ import os
 ALL = "20000-31999"
 
 
+def own_part() -> tuple[int, int]:
+    """The number of this worker, and how many there are."""
+    worker = os.environ.get("PYTEST_XDIST_WORKER", "gw0")
+    count = int(os.environ.get("PYTEST_XDIST_WORKER_COUNT", "1"))
+    return int(worker.removeprefix("gw")), count
+
+
+def take_processors() -> None:
+    """Leaves this worker, and what it starts, the processors that no other worker has."""
+    number, count = own_part()
+    own = sorted(os.sched_getaffinity(0))[number::count]
+    if "PYTEST_XDIST_WORKER" in os.environ and own:
+        os.sched_setaffinity(0, own)
+
+
 def take_ports() -> None:
     """Leaves the ports of this worker alone in LNSD_PORTS, which bozintar.processes reads."""
-    worker = os.environ.get("PYTEST_XDIST_WORKER", "")
-    if not worker:
+    if "PYTEST_XDIST_WORKER" not in os.environ:
         return
-    number, count = int(worker.removeprefix("gw")), int(os.environ["PYTEST_XDIST_WORKER_COUNT"])
+    number, count = own_part()
     first, _, last = (os.environ.get("LNSD_PORTS") or ALL).partition("-")
     each = (int(last) + 1 - int(first)) // count
     begin = int(first) + number * each

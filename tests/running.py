@@ -22,13 +22,16 @@ def passes(*words: str) -> None:
     assert ended.returncode == 0, f"{words[0]} ended with status {ended.returncode}"
 
 
+def files(*patterns: str) -> list[str]:
+    """The files of the repository, or those of a pattern, by their paths from its top."""
+    words = ["git", "ls-files", *patterns]
+    listed = subprocess.run(words, cwd=ROOT, stdout=subprocess.PIPE, text=True, check=True)
+    return [name for name in listed.stdout.splitlines() if (ROOT / name).exists()]
+
+
 def python_files() -> list[str]:
     """All Python files of the repository, by their paths from its top."""
-    listed = subprocess.run(
-        ["git", "ls-files"], cwd=ROOT, stdout=subprocess.PIPE, text=True, check=True
-    )
-    paths = [ROOT / name for name in listed.stdout.splitlines()]
-    return [str(path.relative_to(ROOT)) for path in paths if is_python(path)]
+    return [name for name in files() if is_python(ROOT / name)]
 
 
 def is_python(path: Path) -> bool:

@@ -1,7 +1,8 @@
 """What the tools of this repository share: where the package bozintar is, the crates, whether a
 program is built of the sources as they are, and how much may run at once. bin/programs.sh asks it
 by a word: is_fresh, is_built or commit_of."""
-import importlib
+import importlib.machinery
+import importlib.util
 import os
 import re
 import shutil
@@ -27,6 +28,16 @@ COUNTS = re.compile(r"^(?:test result: \w+\. )?(\d+) passed[,;] (\d+) failed", r
 def need_rt():
     if not shutil.which("rt"):
         stop("the Rattle toolchain's command rt isn't on the PATH, and this needs it", 127)
+
+
+def toolchain() -> Any:
+    """The toolchain's command rt as a module."""
+    need_rt()
+    loader = importlib.machinery.SourceFileLoader("rt", os.path.realpath(shutil.which("rt") or ""))
+    spec: Any = importlib.util.spec_from_loader("rt", loader)
+    made = importlib.util.module_from_spec(spec)
+    loader.exec_module(made)
+    return made
 
 
 def lines():
@@ -58,10 +69,24 @@ def below(crate, named):
 
 
 def minutes():
-    """The processor minutes of each crate's proof from nothing, as they were found."""
-    with open(COSTS, encoding="utf-8") as file:
-        rows = [line.split() for line in file if not line.startswith(("#", "crate ", "all "))]
-    return {row[0]: float(row[1]) for row in rows if row[1:] and row[1] != "-"}
+    """The processor minutes of each crate from nothing, as they were found, by what they are for:
+    its proof, its tests, its edits."""
+    rows = [line.split() for line in read(COSTS).splitlines()]
+    kinds = next(row[1:] for row in rows if row[:1] == ["crate"])
+    crates = lines()
+    return {
+        kind: {row[0]: float(row[at]) for row in rows if row[0] in crates and row[at] != "-"}
+        for at, kind in enumerate(kinds, 1)
+    }
+
+
+def read(file):
+    """A file's text; nothing if there is no file."""
+    try:
+        with open(file, encoding="utf-8", errors="replace") as text:
+            return text.read()
+    except FileNotFoundError:
+        return ""
 
 
 def crates_of(program):

@@ -6,6 +6,7 @@ have several of them, and it says of each function whether it is proved. Edits o
 for example of a constant, are tried alone."""
 import os
 import re
+from collections.abc import Callable, Iterator
 from dataclasses import dataclass
 
 IMPL = re.compile(
@@ -23,7 +24,7 @@ SAYS_NOTHING = re.compile(r"has no field|is not in scope|has no `|was not admitt
 
 @dataclass(frozen=True)
 class Function:
-    """A function with a body, in a file of a crate; its lines are counted from 1."""
+    """A function with a body, in a file of a crate. Its lines, from 1, begin at its attributes."""
 
     file: str
     owner: str
@@ -33,31 +34,18 @@ class Function:
     last: int
 
     @property
-    def proofs(self) -> str:
-        """The folder of its proofs."""
-        parts = [part for part in self.modules() if part]
-        return "/".join(["proofs", *parts, *([self.owner] if self.owner else []), self.name])
-
-    @property
     def path(self) -> str:
-        """Its path below the crate, as `rt check --only` takes it."""
-        parts = [*self.modules(), self.owner, self.name]
-        return "::".join(part for part in parts if part)
-
-    def modules(self) -> list[str]:
-        """The modules that it is in."""
-        return self.file.removeprefix("src/").removesuffix(".rt").removesuffix("lib").split("/")
+        """The end of its name in a check, as `--only` takes it: a method is in the module of its
+        type, whatever file it is in, and any other function in that of its file."""
+        modules = self.file.removeprefix("src/").removesuffix(".rt").removesuffix("lib").split("/")
+        parts = [self.owner, self.name] if self.owner else [*filter(None, modules), self.name]
+        return "::".join(parts)
 
     def is_named(self, name: str) -> bool:
         """Whether a check means this function by a name such as `crate::module::Type::function`."""
-        parts = name.split("::")[1:]
-        modules = [part for part in self.modules() if part]
-        between = parts[len(modules) : -1]
-        return (
-            parts[: len(modules)] == modules
-            and parts[-1] == self.name
-            and (between == [self.owner] if self.owner else not between)
-        )
+        if self.owner:
+            return name.endswith(f"::{self.path}")
+        return name.partition("::")[2] == self.path
 
 
 def functions_in(file: str, text: str) -> list[Function]:
@@ -69,9 +57,12 @@ def functions_in(file: str, text: str) -> list[Function]:
         elif line == "}":
             owner = ""
         if told := FUNCTION.match(line):
-            ends = body_of(lines, number, told[1])
+            ends, first = body_of(lines, number, told[1]), number
+            # a check may name the line of an attribute
+            while first and lines[first - 1].strip() and lines[first - 1][-1] not in "{};":
+                first -= 1
             if ends:
-                where = (number + 1, ends[0] + 1, ends[1] + 1)
+                where = (first + 1, ends[0] + 1, ends[1] + 1)
                 found.append(Function(file, owner if told[1] else "", told[2], *where))
     return found
 
@@ -97,6 +88,11 @@ def body_of(lines: list[str], first: int, indent: str) -> tuple[int, int] | None
     return None
 
 
+def read(file: str) -> str:
+    with open(file, encoding="utf-8") as text:
+        return text.read()
+
+
 def changes_of(edit: str) -> list[tuple[str, str, str]]:
     """The changes of an edit: a file, a text, and what comes in its place."""
     changes, file, old = [], "", ""
@@ -116,16 +112,14 @@ def function_of(edit: str, crate: str) -> Function | None:
     functions = set()
     texts: dict[str, str] = {}
     for file, old, new in changes_of(edit):
-        if not file.startswith("src/"):
+        if not file.startswith("src/") or not os.path.isfile(f"{crate}/{file}"):
             return None
-        if file not in texts:
-            with open(f"{crate}/{file}", encoding="utf-8") as source:
-                texts[file] = source.read()
+        texts[file] = texts.get(file) or read(f"{crate}/{file}")
         before, _, after = texts[file].partition(old)
         line = before.count("\n") + 1
         there = functions_in(file, texts[file])
         of_line = [it for it in there if it.body < line < it.last]
-        named = [it for it in there if of_line and it.name == of_line[-1].name]
+        named = [it for it in there if of_line and it.path == of_line[-1].path]
         if len(of_line) != 1 or len(named) != 1:
             return None
         functions.add(of_line[0])
@@ -133,12 +127,12 @@ def function_of(edit: str, crate: str) -> Function | None:
     return functions.pop() if len(functions) == 1 else None
 
 
-def batches_of(edits: dict[str, Function], most: int) -> list[list[str]]:
-    """The edits in batches of at most this many, in each of which no two change one function."""
+def batches_of(edits: dict[str, Function]) -> list[list[str]]:
+    """The edits in batches, in each of which no two change one function."""
     batches: list[list[str]] = []
     for edit, function in edits.items():
         for batch in batches:
-            if len(batch) < most and all(edits[other] != function for other in batch):
+            if all(edits[other] != function for other in batch):
                 batch.append(edit)
                 break
         else:
@@ -146,15 +140,32 @@ def batches_of(edits: dict[str, Function], most: int) -> list[list[str]]:
     return batches
 
 
-def apply(edits: list[str], crate: str) -> None:
-    """Applies edits to a crate's folder."""
-    for edit in edits:
-        for file, old, new in changes_of(edit):
-            path = os.path.join(crate, file)
-            with open(path, encoding="utf-8") as source:
-                text = source.read()
-            with open(path, "w", encoding="utf-8") as source:
-                source.write(text.replace(old, new))
+def edited(edits: list[str], crate: str) -> dict[str, str]:
+    """The sources of a crate's folder that edits change, as they make them. The texts of an edit
+    are replaced one after another, so a later one may be what an earlier one has made."""
+    texts: dict[str, str] = {}
+    for file, old, new in (change for edit in edits for change in changes_of(edit)):
+        texts[file] = texts.get(file) or read(f"{crate}/{file}")
+        if texts[file].count(old) != 1:
+            raise ValueError(f"not once there: {old.strip()}")
+        texts[file] = texts[file].replace(old, new)
+    return texts
+
+
+def refused_together(
+    batch: list[str], edits: dict[str, Function], check: Callable[[list[str]], str]
+) -> Iterator[tuple[str, str]]:
+    """Each edit of a batch that checks of several refuse, and why. A check may say nothing of an
+    edit because another one is refused: then the others are tried without that. If it refuses none,
+    one edit may have kept it from all proofs: then each half is tried."""
+    said = check(batch)
+    refused = {edit: why for edit in batch if (why := refused_in(said, edits[edit]))}
+    yield from refused.items()
+    rest = [edit for edit in batch if edit not in refused]
+    middle = 0 if refused else len(rest) // 2
+    for part in (rest[:middle], rest[middle:]):
+        if part and len(part) < len(batch):
+            yield from refused_together(part, edits, check)
 
 
 def refused_in(said: str, function: Function) -> str:
@@ -165,7 +176,7 @@ def refused_in(said: str, function: Function) -> str:
         if (told := IN_SOURCE.match(line)) and told[1] == function.file:
             if function.first <= int(told[2]) <= function.last:
                 return line.removeprefix("note: ")
-        if (told := IN_PROOF.match(line)) and told[1] == function.proofs:
+        if (told := IN_PROOF.match(line)) and function.is_named(told[1].replace("/", "::")):
             if not SAYS_NOTHING.search(told[2]):
                 return line
     return ""

@@ -1,2 +1,2 @@
 """What the merge gate costs: the words of tools/gate-costs."""
-WORDS = ("whole", "edits", "functions", "lanes")
+WORDS = ("watch", "edits", "functions", "lanes")

@@ -4,16 +4,13 @@ the edits are tried over a copy of the work that it kept, as the merge gate trie
 
 `search` is the part of the seconds in which the prover reports what it found (the stages after its
 check). If it is above a second, the prover searched for the broken goal and printed help; answer
-the goal (see docs/GATE_COSTS.md).
+the goal (see tools/costs/README.md).
 
 Status: 0; 1 if no check of the crate kept anything; 2 for a wrong word; 127 if there is no rt."""
-import importlib.machinery
-import importlib.util
 import os
 import resource
 import shutil
 import tempfile
-from typing import Any
 
 import commands
 from commands import ROOT
@@ -22,18 +19,15 @@ from bozintar.words import Words, stop
 
 def toolchain():
     """The toolchain's command as a module: it knows how the gate applies and checks an edit."""
-    file = os.path.realpath(shutil.which("rt") or "rt")
-    loader = importlib.machinery.SourceFileLoader("rt", file)
-    spec: Any = importlib.util.spec_from_loader("rt", loader)
-    made = importlib.util.module_from_spec(spec)
-    loader.exec_module(made)
-    for name in ("checked", "edits_of", "read_edit", "rtlib"):
+    made = commands.toolchain()
+    for name in ("checked", "edits_of", "must_fail", "read_edit", "rtlib"):
         if not hasattr(made, name):
             stop(f"this toolchain's rt has no {name}, which this reads (rattle-kit-13b has it)")
     return made
 
 
 def seconds():
+    """How long the processors worked for the commands that have ended."""
     used = resource.getrusage(resource.RUSAGE_CHILDREN)
     return used.ru_utime + used.ru_stime
 

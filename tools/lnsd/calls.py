@@ -15,7 +15,7 @@ Write = tuple[int, bytes]
 
 @dataclass(frozen=True)
 class Call:
-    """A write with its place and bytes, or a sync; and where it ends in the log."""
+    """A write with its place and bytes, or another call; and where it ends in the log."""
 
     kind: bytes
     place: int

@@ -2,6 +2,11 @@
 //! and serves gateways and applications over TCP.
 #![tactic(auto)]
 
+#[cfg(test)]
+mod fault_words_tests;
+#[cfg(test)]
+mod words_tests;
+
 use gateway_server::{Fault, ServerCommands, command, fail};
 use lw_types::Refusal;
 use std::alloc::{AllocError, Global};

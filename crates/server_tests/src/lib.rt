@@ -1,16 +1,13 @@
 //! Tests of a server's life over loopback sockets: what clients send and receive, and the result.
 //! Both ends are in one process, and each client sends everything before the life begins. Also
-//! tests of the server's words, of the words of its faults, and of the lines that it prints. Whole
-//! runs of the server are played on the built program, by `tests/lnsd/hostile` and
-//! `examples/server/walk`.
+//! tests of the lines that operators read. Whole runs of the server are played on the built
+//! program, by `tests/lnsd/hostile` and `examples/server/walk`.
 #![tactic(auto)]
 
 #[cfg(test)]
 mod disks;
 #[cfg(test)]
 mod durable_tests;
-#[cfg(test)]
-mod fault_words_tests;
 #[cfg(test)]
 mod faults_tests;
 #[cfg(test)]
@@ -31,5 +28,3 @@ mod sights_tests;
 mod talk;
 #[cfg(test)]
 mod wire;
-#[cfg(test)]
-mod words_tests;

@@ -172,7 +172,7 @@ const ROWS: &[(&str, &str)] = &[
     ("--netid 00002A", "wrong"),
 ];
 
-fn asked(alloc: Global, line: &str) -> Result<String, AllocError> {
+fn words_ask(alloc: Global, line: &str) -> Result<String, AllocError> {
     let all: Vec<&str> = line
         .split(' ')
         .filter(|word| !word.is_empty())
@@ -278,7 +278,7 @@ fn edit_of(alloc: Global, edit: &Edit<'_>) -> Result<String, AllocError> {
 #[test]
 fn words_ask_for_one_thing(rt: HostRuntime) {
     for (line, wanted) in ROWS {
-        let told = asked(rt.alloc(), line).expect(&rt, "memory");
+        let told = words_ask(rt.alloc(), line).expect(&rt, "memory");
         assert!(rt; told.as_str() == *wanted, "{line}: {told}");
     }
 }
