@@ -4,12 +4,14 @@ import shutil
 from collections.abc import Callable, Iterator, Sequence
 from contextlib import ExitStack
 from functools import partial
+from pathlib import Path
 
 import preloads
 import pytest
 from bozintar.server import Program
 from bozintar.store import Record
 
+from .clocks import Clock
 from .pairs import formatted
 
 NewServer = Callable[..., Program]
@@ -49,6 +51,12 @@ def replaced(tmp_path_factory: pytest.TempPathFactory) -> Callable[[str], str]:
 
 @pytest.fixture(scope="session")
 def with_disk(replaced: Callable[[str], str]) -> Environment:
-    """Makes environments of a program in which calls of its disk fail, or are slow, as the comment
-    on preloads.CALLS says."""
-    return partial(preloads.environment, replaced(preloads.CALLS))
+    """Makes environments of a program in which calls of its disk fail, or are slow, or its clock
+    stands still, as the comments on preloads.CALLS and CLOCK say."""
+    return partial(preloads.environment, replaced(preloads.CALLS + preloads.CLOCK))
+
+
+@pytest.fixture
+def clock(with_disk: Environment, folder: Path) -> Clock:
+    """A clock that stands still."""
+    return Clock(with_disk, folder / "clock")

@@ -3,7 +3,6 @@ all bytes that come are known, and how links and servers end."""
 
 import os
 import shutil
-import time
 from collections.abc import Iterator, Sequence
 from contextlib import contextmanager
 from typing import Any
@@ -13,7 +12,8 @@ from bozintar.devices import Device
 from bozintar.links import Application, Gateway, Link
 from bozintar.server import Program
 from bozintar.wire import Copy
-from lnsd.unread import await_read
+
+from .clocks import await_rest
 
 DEV_EUI, JOIN_EUI = "1112131415161718", "0102030405060708"
 APP_KEY = "2B7E151628AED2A6ABF7158809CF4F3C"
@@ -21,6 +21,7 @@ OWNER, EUI = 3, "00000000000000B1"
 PROVISION = f"provision {DEV_EUI} {JOIN_EUI} {APP_KEY} 0 1"
 HEARD = Copy(EUI)
 SUCCESS = (0, "", "")
+WINDOW = 0.2  # how long a window lasts, in seconds
 
 
 @contextmanager
@@ -94,20 +95,13 @@ def greeted(address: tuple[str, int]) -> Pair:
     return pair
 
 
-def linked(
-    address: tuple[str, int], application: int = OWNER, eui: str = EUI
-) -> tuple[Application, Gateway]:
-    """An application and a gateway, once the server has taken their greetings."""
-    both = Application(address, application), Gateway(address, eui)
-    await_links(both)
+def linked(program: Program, **how: Any) -> tuple[Application, Gateway]:
+    """An application and a gateway, once the server has taken their greetings. It is started for
+    them, if it doesn't run."""
+    address = program.address or program.serve(2, **how)
+    both = Application(address, OWNER), Gateway(address, EUI)
+    await_rest(program, both)
     return both
-
-
-def await_links(links: Sequence[Link], seconds: float = 0.3) -> None:
-    """Gives the server time to take the greetings that it has read: nothing answers these."""
-    for link in links:
-        await_read(link)
-    time.sleep(seconds)
 
 
 def end_all(links: Sequence[Link]) -> None:

@@ -2,9 +2,12 @@
 
 import re
 
+import pytest
+
 from ..running import ROOT
 from .test_wakeups import CRATES
 
+pytestmark = pytest.mark.pages
 # a lock's name in the table, if the code calls it otherwise
 NAMES = {"self": "sessions"}
 LOCKS = re.compile(r"(\w+)(?:\.get\(\w+\)\?)?\.lock\(")

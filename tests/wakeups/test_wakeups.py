@@ -10,8 +10,9 @@ import pytest
 from bozintar import debian
 
 from ..running import ROOT
+from .test_orders import FOLDER, written
 
-MODEL = Path(__file__).parent / "wakeups.pml"
+MODEL = FOLDER / "wakeups.pml"
 # `serve` and `run`, each with links that stay and with a life that ends
 SEARCHES = ((), ("ENDS",), ("RUN",), ("RUN", "ENDS"))
 # The most memory of a search in megabytes, and its longest way in steps.
@@ -42,17 +43,6 @@ FAULTS = {
 }
 # The crates whose threads park and wake each other.
 CRATES = ("lnsd_links", "lnsd_threads", "lnsd_life", "lnsd_operator", "flusher", "session_core")
-# Functions with wake-ups that are no part of the model: those for operators, the pause after a
-# failed accept, and the end after a failure of the store.
-NOT_MODELLED = {
-    "lnsd_threads/attending: run",
-    "lnsd_threads/hosting: pause",
-    "lnsd_operator/control: close",
-    "lnsd_links/signals: stop",
-    "lnsd_operator/watching: ring",
-    "lnsd_operator/watching: tell",
-    "lnsd_operator/watching: wait",
-}
 
 
 @dataclass
@@ -81,18 +71,6 @@ def searched(folder: Path, switches: Sequence[str]) -> Search:
     steps = {int(line) for line, text in lines if text not in ("-end-", "(0)")}
     missed = re.findall(r'wakeups\.pml:(\d+), state \d+, "(.+)"', said)
     return Search(said, steps, {int(line) for line, text in missed if text not in ("-end-", "(0)")})
-
-
-def named() -> set[tuple[str, str]]:
-    """The files and functions of the code that the model names."""
-    found = re.findall(r"\* (\w+/\w+): ((?:\w+::)?\w+)\b", MODEL.read_text())
-    return {(file, name.split("::")[-1]) for file, name in found}
-
-
-def source_of(file: str) -> Path:
-    """The source of `crate/file`."""
-    crate, name = file.split("/")
-    return ROOT / "crates" / crate / "src" / f"{name}.rt"
 
 
 def waking(path: Path) -> set[str]:
@@ -129,20 +107,10 @@ def test_fault_is_found(tmp_path: Path, fault: str) -> None:
     assert "assertion violated" in said, said
 
 
-def test_model_names_code() -> None:
-    """Each function that the model names is in the code."""
-    for file, name in sorted(named()):
-        source = source_of(file)
-        assert source.is_file(), f"the model names {file}, and there is no {source}"
-        is_there = re.search(rf"\bfn {name}\b", source.read_text())
-        assert is_there, f"the model names {name} of {file}, which is no longer there"
-
-
-def test_model_has_all_wakeups() -> None:
-    """Each function that parks or wakes a thread is in the model, or noted as not modelled."""
+def test_all_wakeups_have_orders() -> None:
+    """Each function that parks or wakes a thread stands with its order."""
     sources = [path for crate in CRATES for path in (ROOT / "crates" / crate / "src").glob("*.rt")]
-    found = {f"{path.parts[-3]}/{path.stem}: {name}" for path in sources for name in waking(path)}
-    known = {f"{file}: {name}" for file, name in named()} | NOT_MODELLED
+    found = {(f"{path.parts[-3]}/{path.stem}", name) for path in sources for name in waking(path)}
+    known = {(file, name.split("::")[-1]) for file, name in written()}
     assert found, "no function parks or wakes a thread"
-    assert found <= known, f"neither modelled nor noted: {sorted(found - known)}"
-    assert NOT_MODELLED <= found, f"noted, and gone: {sorted(NOT_MODELLED - found)}"
+    assert found <= known, f"they stand nowhere: {sorted(found - known)}"

@@ -1,8 +1,9 @@
 /* The wake-ups of lnsd's threads. README.md says what is modelled, and what isn't.
  *
- * A line `crate/file: Type::function` names the code of the steps after it. A step is one action on
- * what threads share, and all interleavings of these steps are searched. What a thread does under
- * a lock is one action, except for a greeting that takes a name over.
+ * A line `crate/file: Type::function` names the code of the steps after it. The first time, the
+ * order of this function's calls follows (test_orders.py). A step is one action on what threads
+ * share, and all interleavings of these steps are searched. What a thread does under a lock is one
+ * action, except for a greeting that takes a name over.
  *
  *   -DRUN        models `lnsd run`, where an application's link ends or is taken over. Without it,
  *                `lnsd serve` is modelled.
@@ -44,7 +45,7 @@ end_time:
     od
 }
 
-/* session_core/closing: Core::close_oldest
+/* session_core/closing: Core::close_oldest: match keep_oldest { { if { return } windows.close } }
  * A decision is made, or the frame is refused. */
 inline close_oldest() {
     due--;
@@ -54,8 +55,8 @@ inline close_oldest() {
     fi
 }
 
-/* session_core/closing: Core::begin
- * session_core/closing: Core::close_due
+/* session_core/closing: Core::begin: close_due
+ * session_core/closing: Core::close_due: for { if !close_oldest { return } }
  * Closes windows that are due. The moment was read before the lock was taken, so more of them may
  * be due by now. */
 inline begin() {
@@ -65,7 +66,7 @@ inline begin() {
     od
 }
 
-/* lnsd_links/signals: Signals::end_input */
+/* lnsd_links/signals: Signals::end_input: if open_inputs.fetch_sub(1) { opened.unpark } */
 inline end_input() {
 #ifdef FAULT_BELL_BEFORE_END_OF_INPUT
     atomic { if :: open_inputs == 1 -> opened_bell = true :: else fi }
@@ -94,11 +95,11 @@ hear_copy:
     :: else
     fi;
 #endif
-    /* lnsd_threads/reading: Worker::handle_copy
-     * lnsd_threads/observing: LiveServer::handle
-     * session_core/shared: Shared::handle
-     * session_core/events: Core::handle
-     * session_core/closing: Core::listen
+    /* lnsd_threads/reading: Worker::handle_copy: handle if { tell_frames } tell_opened
+     * lnsd_threads/observing: LiveServer::handle: handle
+     * session_core/locked: Sessions::handle: let lock handle_in
+     * session_core/events: Core::handle_seen: match begin { work }
+     * session_core/closing: Core::listen: if { return } windows.add
      * A copy opens a window, or joins one or is refused. */
     atomic {
         copies--;
@@ -114,10 +115,10 @@ hear_copy:
     fi;
     atomic { frames_decided = true; NEXT }
 #endif
-    /* lnsd_links/signals: Signals::tell_frames */
+    /* lnsd_links/signals: Signals::tell_frames: frames_decided.store(true) */
     frames_decided = true;
 tell_opened:
-    /* lnsd_links/signals: Signals::tell_opened */
+    /* lnsd_links/signals: Signals::tell_opened: if closer_idle.swap(false) { opened.unpark } */
 #ifdef FAULT_OPENED_BEFORE_HEARD
     atomic { NEXT }
 #endif
@@ -126,7 +127,8 @@ tell_opened:
 read:
 #ifdef ENDS
 #ifdef RUN
-    /* lnsd_threads/reading: Worker::read
+    /* lnsd_threads/reading: Worker::read:
+     *     for { match { { end break } { if !handle_piece || is_closed { break } } } }
      * Waits until the operator ends the input. */
     gateways_shut;
 #endif
@@ -141,19 +143,22 @@ end_over:
 
 active proctype closer() {
     bit is_decided, is_last;
-    /* lnsd_threads/closing: Closer::run */
+    /* lnsd_threads/closing: Closer::run:
+     *     for { if is_over { break } wait_for_window if !tick { pause } }
+     *     if !is_stopped { close_all } tell_ticked */
 turn:
 #ifdef ENDS
-    /* lnsd_links/signals: Signals::is_over */
+    /* lnsd_links/signals: Signals::is_over: is_stopped || open_inputs.load */
     if
     :: open_inputs == 0 -> goto last
     :: else
     fi;
 #endif
-    /* lnsd_threads/closing: Closer::wait_for_window
-     * lnsd_links/signals: Signals::set_idle
-     * session_core/shared: Shared::next_due
-     * lnsd_links/signals: Signals::has_frames */
+    /* lnsd_threads/closing: Closer::wait_for_window:
+     *     set_idle next_due if && !has_frames { opened.park } clear_idle if { wait }
+     * lnsd_links/signals: Signals::set_idle: closer_idle.store(true)
+     * session_core/locked: Sessions::next_due: lock next_due
+     * lnsd_links/signals: Signals::has_frames: frames_decided.load */
 #ifndef FAULT_IDLE_AFTER_LOOK
     closer_idle = true;
 #endif
@@ -174,9 +179,9 @@ turn:
 end_park:
     atomic { opened_bell -> opened_bell = false }
 clear:
-    /* lnsd_links/signals: Signals::clear_idle */
+    /* lnsd_links/signals: Signals::clear_idle: closer_idle.store(false) */
     atomic { closer_idle = false; if :: is_timed :: else -> goto tick fi }
-    /* lnsd_threads/moments: Monotonic::wait
+    /* lnsd_threads/moments: Monotonic::wait: if { park_timeout }
      * If the moment has come, it may wait for the least time between two turns, or not at all. */
     if
     :: is_due -> goto tick
@@ -184,10 +189,10 @@ clear:
     fi;
     opened_bell = false;
 tick:
-    /* lnsd_threads/closing: Closer::tick
+    /* lnsd_threads/closing: Closer::tick: handle(Tick) if { tell_frames } ring_for_frames
      * lnsd_threads/observing: LiveServer::handle
-     * session_core/shared: Shared::handle
-     * session_core/events: Core::handle */
+     * session_core/locked: Sessions::handle
+     * session_core/events: Core::handle_seen */
     atomic {
         is_timed = false;
         is_due = false;
@@ -199,7 +204,8 @@ tick:
     }
     frames_decided = true;
 tell:
-    /* lnsd_links/signals: Signals::ring_for_frames */
+    /* lnsd_links/signals: Signals::ring_for_frames:
+     *     if frames_decided.swap(false) { decided.unpark } */
     atomic {
         if
         :: frames_decided -> frames_decided = false
@@ -212,11 +218,11 @@ last:
     ticked = true;
     decided_bell = true;
 #endif
-    /* lnsd_threads/closing: Closer::close_all
+    /* lnsd_threads/closing: Closer::close_all: for { if tick { break } pause }
      * A tick after the last moment closes all windows. */
     atomic { due = due + later; later = 0; is_last = true; goto tick }
 tick_told:
-    /* lnsd_links/signals: Signals::tell_ticked */
+    /* lnsd_links/signals: Signals::tell_ticked: reach(Ticked) decided.unpark */
 #ifndef FAULT_TICKED_BEFORE_CLOSING
     ticked = true;
     decided_bell = true;
@@ -249,23 +255,23 @@ active proctype flusher() {
     byte marked;
 #endif
 chain:
-    /* flusher/serving: serve
-     * flusher/chaining: chain
-     * flusher/chaining: take
-     * flusher/drawn: Drawn::next
-     * session_core/shared: Shared::take */
+    /* flusher/serving: serve: for { if chain && done { return } }
+     * flusher/chaining: chain: take if { return } begin follow
+     * flusher/chaining: take: next
+     * flusher/drawn: Drawn::next: take
+     * session_core/locked: Sessions::take: lock take */
     atomic { if :: untaken -> untaken = false :: else -> goto is_done fi }
 follow:
-    /* flusher/chaining: begin_following
+    /* flusher/chaining: begin_following: if || { return } take if { return } begin_next
      * It takes nothing more if the chain or the journal has no more room. */
     atomic { if :: following = untaken; untaken = false :: true fi }
 #ifdef FAULT_BELL_BEFORE_RING
     bell = true;
 #endif
-    /* flusher/chaining: release
-     * lnsd_life/flushing: let_out
-     * lnsd_links/routing: route
-     * lnsd_life/flushing: mark_links
+    /* flusher/chaining: release: release
+     * lnsd_life/flushing: let_out: let directory.lock let_out_by drop ring_links
+     * lnsd_links/routing: route: for { match route_one { } }
+     * lnsd_life/flushing: mark_links: for { mark_link }
      * What is put into the ring under the lock of the directory, and whose bell is to be rung. */
 #ifdef RUN
     atomic {
@@ -274,7 +280,7 @@ follow:
         marked = holder;
         if :: marked == NOBODY -> CONTINUE :: else fi
     }
-    /* lnsd_life/flushing: ring_links */
+    /* lnsd_life/flushing: ring_links: for { if { bell.unpark } } */
     atomic { bell[marked] = true; marked = 0; CONTINUE }
 #else
     atomic { if :: is_greeted -> ring = true :: else -> CONTINUE fi }
@@ -285,26 +291,30 @@ follow:
     atomic { bell = true; CONTINUE }
 #endif
 is_done:
-    /* lnsd_life/flushing: is_done */
+    /* lnsd_life/flushing: is_done:
+     *     if { return } if !has_reached(Ticked) { wait_for_decisions } has_reached(Ticked) */
     if
     :: is_ticked -> goto finish
     :: atomic { !is_ticked && ticked -> goto see }
     :: else
     fi;
-    /* lnsd_links/signals: Signals::wait_for_decisions */
+    /* lnsd_links/signals: Signals::wait_for_decisions: decided.park */
 end_park:
     atomic { decided_bell -> decided_bell = false }
 see:
-    /* lnsd_links/signals: Signals::has_reached */
+    /* lnsd_links/signals: Signals::has_reached: stage.load */
     atomic { is_ticked = ticked }
 #ifdef FAULT_END_AT_TICK
     if :: is_ticked -> goto finish :: else fi;
 #endif
     goto chain;
 finish:
-    /* lnsd_life/flushing: finish */
+    /* lnsd_life/flushing: flush:
+     *     { { taken_so_far let_out } || { taken_so_far is_done } serve }
+     *     if { stop } finish ring_senders
+     * lnsd_life/flushing: finish: for { finish } */
     is_finished = true;
-    /* lnsd_threads/server: LiveServer::ring_senders */
+    /* lnsd_threads/server: LiveServer::ring_senders: for { bell.unpark } */
 #ifdef RUN
     bell[0] = true;
     bell[1] = true;
@@ -329,20 +339,21 @@ active proctype application_worker() {
     /* It has greeted before, and the sender runs. */
     atomic { is_greeted = true; is_sending = true }
 #else
-    /* lnsd_threads/hosting: Worker::take_over
-     * lnsd_links/names: Directory::greet */
+    /* lnsd_threads/hosting: Worker::take_over:
+     *     let directory.lock named match { { return } { return } }
+     * lnsd_links/names: Directory::greet: if && { return } give */
     is_greeted = true;
-    /* lnsd_threads/hosting: hold
-     * lnsd_threads/threads: start */
+    /* lnsd_threads/hosting: hold: start_sender if && handle_all { read } end_link
+     * lnsd_threads/threads: start: spawn_scoped */
     atomic { is_sending = true; MAY_ASK }
 #endif
 #ifdef FAULT_RING_BEFORE_ASKING
     decided_bell = true;
 #endif
-    /* lnsd_threads/reading: Worker::ask
+    /* lnsd_threads/reading: Worker::ask: handle if { ring_flusher }
      * lnsd_threads/observing: LiveServer::handle
-     * session_core/shared: Shared::handle
-     * session_core/events: Core::handle */
+     * session_core/locked: Sessions::handle
+     * session_core/events: Core::handle_seen */
     atomic {
         begin();
         if
@@ -354,12 +365,12 @@ active proctype application_worker() {
         if :: is_decided -> is_decided = false :: else -> goto refused fi
     }
 #ifndef FAULT_RING_BEFORE_ASKING
-    /* lnsd_links/signals: Signals::ring_flusher */
+    /* lnsd_links/signals: Signals::ring_flusher: decided.unpark */
     decided_bell = true;
 #endif
     atomic { if :: is_refused :: else -> goto read fi }
 refused:
-    /* lnsd_threads/reading: Worker::tell_asker */
+    /* lnsd_threads/reading: Worker::tell_asker: if { refusals.push bell.unpark } */
 #ifdef FAULT_BELL_BEFORE_REFUSAL
     bell = true;
     refusals = true;
@@ -370,9 +381,11 @@ refused:
     atomic { is_refused = false }
 read:
 #ifdef ENDS
-    /* lnsd_threads/hosting: Worker::end_link */
+    /* lnsd_threads/hosting: Worker::end_link:
+     *     if ending { end_input return } if && { end_input return }
+     *     let directory.lock leave drop set_over */
     end_input();
-    /* lnsd_threads/hosting: Worker::converse
+    /* lnsd_threads/hosting: Worker::converse: { hold }
      * Its scope joins the sender. */
 end_join:
     !is_sending;
@@ -382,22 +395,25 @@ end_over:
     false
 }
 
-/* lnsd_links/writing: HostSender::run
- * lnsd_links/writing: Sender::run */
+/* lnsd_links/writing: HostSender::run:
+ *     spare.lock take else { return } match { send send_lines } spare.lock
+ * lnsd_links/writing: Sender::run:
+ *     for { if is_stopped { break } may_write else { break }
+ *     is_last if send_some { continue } if { break } bell.park } shutdown(Write) */
 active proctype application_sender() {
     bit is_last;
 end_start:
     is_sending;
 look:
 #if defined(ENDS) && !defined(FAULT_LAST_AFTER_LOOK)
-    /* lnsd_links/writing: Sender::is_last
-     * outbox/ends: Inlet::is_finished */
+    /* lnsd_links/writing: Sender::is_last: is_over || is_finished
+     * outbox/ends: Inlet::is_finished: is_abandoned */
     atomic { is_last = is_finished }
 #endif
-    /* lnsd_links/writing: Sender::send_some
-     * lnsd_links/writing: Sender::gather_refusals
-     * lnsd_links/writing: Sender::gather_effects
-     * lnsd_links/gathering: gather */
+    /* lnsd_links/writing: Sender::send_some: hand_over
+     * lnsd_links/writing: Sender::gather_refusals: for { refusals.pop else { break } }
+     * lnsd_links/writing: Sender::gather_effects: gather
+     * lnsd_links/gathering: gather: for { if { break } take else { break } } */
     atomic {
         if
         :: refusals || ring -> refusals = false; ring = false; is_last = false; goto look
@@ -458,7 +474,7 @@ end_read:
 #endif
     /* lnsd_links/names: Directory::leave */
     atomic { !is_taking_over; if :: holder == place -> holder = NOBODY :: else fi }
-    /* lnsd_links/link: Link::set_over */
+    /* lnsd_links/link: Link::set_over: over.store(true) bell.unpark */
 #ifdef FAULT_OVER_AFTER_BELL
     bell[place] = true;
     over[place] = true;
@@ -472,11 +488,12 @@ join:
 end_join:
     !is_sending[place];
 hide:
-    /* lnsd_links/link: Link::hide */
+    /* lnsd_links/link: Link::hide: current.lock */
     atomic { shown[place] = false; shut[place] = false; will_end = false }
 accept:
-    /* lnsd_threads/hosting: Worker::run
-     * lnsd_links/door: Entrance::next */
+    /* lnsd_threads/hosting: Worker::run:
+     *     for { next if is_ending { break } match { serve if pause break } } end_input
+     * lnsd_links/door: Entrance::next: match { lock take accept } */
 end_accept:
     atomic {
         if
@@ -485,14 +502,16 @@ end_accept:
         fi
     }
 #ifdef ENDS
-    /* lnsd_links/signals: Signals::is_ending */
+    /* lnsd_links/signals: Signals::is_ending: has_reached(Ending) || is_stopped */
     if
     :: ending -> goto no_more
     :: else
     fi;
 #endif
-    /* lnsd_threads/hosting: Worker::serve
-     * lnsd_links/link: Link::show */
+    /* lnsd_threads/hosting: Worker::serve:
+     *     else { return } show if !is_ending { welcome } if { hide }
+     * lnsd_links/link: Link::show:
+     *     over.store(false) disconnected.store(false) last_copy.store(0) current.lock */
 #ifndef FAULT_SHOWN_AFTER_LOOK
     shown[place] = true;
 #endif
@@ -505,19 +524,20 @@ end_accept:
 #ifdef FAULT_SHOWN_AFTER_LOOK
     shown[place] = true;
 #endif
-    /* lnsd_threads/hosting: Worker::welcome
+    /* lnsd_threads/hosting: Worker::welcome:
+     *     else { return } else { return } if take_over { begin_link converse drop_rest }
      * lnsd_threads/hosting: Worker::take_over
-     * lnsd_links/names: Directory::take_over */
+     * lnsd_links/names: Directory::take_over: give close_link_of */
     atomic {
         !is_taking_over;
         older = holder;
         holder = place;
         if :: older == NOBODY -> goto start :: else -> is_taking_over = true fi
     }
-    /* lnsd_links/link: Link::disconnect */
+    /* lnsd_links/link: Link::disconnect: disconnected.store(true) close */
     taken[older] = true;
-    /* lnsd_links/link: Link::close
-     * lnsd_links/link: Link::shut */
+    /* lnsd_links/link: Link::close: shut(Both) bell.unpark pause.unpark
+     * lnsd_links/link: Link::shut: if current.lock { shutdown } */
     atomic { if :: shown[older] -> shut[older] = true :: else fi }
     atomic { bell[older] = true; is_taking_over = false; older = NOBODY }
 start:
@@ -545,9 +565,12 @@ proctype place_sender(bit place) {
 idle:
 end_idle:
     is_sending[place];
-    /* lnsd_links/writing: HostSender::send_lines
-     * lnsd_links/writing: HostSender::wait_for
-     * lnsd_links/rings: WaitingLines::take */
+    /* lnsd_links/writing: HostSender::send_lines:
+     *     wait_for else { return } send give_back for { bell.unpark }
+     * lnsd_links/writing: HostSender::wait_for:
+     *     for { take if { return }
+     *     if is_over || is_disconnected || is_stopped { return } bell.park }
+     * lnsd_links/rings: WaitingLines::take: lines.lock take */
 wait_for:
     atomic { if :: has_lines -> has_lines = false; goto look :: else fi }
     atomic { if :: over[place] -> goto gone :: else fi }
@@ -555,9 +578,9 @@ wait_for:
 end_wait:
     atomic { bell[place] -> bell[place] = false; goto wait_for }
 look:
-    /* lnsd_links/writing: HostSender::send
+    /* lnsd_links/writing: HostSender::send: run
      * lnsd_links/writing: Sender::run
-     * lnsd_links/writing: Sender::may_write */
+     * lnsd_links/writing: Sender::may_write: if { return } if { return } named */
     atomic { if :: taken[place] -> goto give_back :: else fi }
     /* lnsd_links/writing: Sender::is_last */
     atomic { is_last = over[place] || is_finished }
@@ -570,7 +593,7 @@ end_park:
     atomic { bell[place] -> bell[place] = false; goto look }
 give_back:
     /* lnsd_links/writing: HostSender::send_lines
-     * lnsd_links/rings: WaitingLines::give_back */
+     * lnsd_links/rings: WaitingLines::give_back: lines.lock */
 #ifdef FAULT_LINES_AFTER_BELLS
     bell[0] = true;
     bell[1] = true;
@@ -585,13 +608,13 @@ gone:
 }
 
 #ifdef ENDS
-/* lnsd_threads/server: LiveServer::end */
+/* lnsd_threads/server: LiveServer::end: reach(Ending) shut_door for { close_input } */
 active proctype operator() {
-    /* lnsd_links/signals: Signals::reach */
+    /* lnsd_links/signals: Signals::reach: stage.fetch_max */
     ending = true;
-    /* lnsd_threads/server: LiveServer::shut_door */
+    /* lnsd_threads/server: LiveServer::shut_door: if { shut } */
     is_door_shut = true;
-    /* lnsd_links/link: Link::close_input */
+    /* lnsd_links/link: Link::close_input: shut(Read) pause.unpark */
     gateways_shut = true;
     atomic { if :: shown[0] -> shut[0] = true :: else fi }
     atomic { if :: shown[1] -> shut[1] = true :: else fi }

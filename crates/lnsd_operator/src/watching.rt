@@ -74,13 +74,24 @@ impl Watch {
     /// Sends an event to each operator who watches. It never waits for an operator to read, and
     /// does nothing while nobody watches.
     pub fn tell<R: Wait>(&self, rt: &R, sight: Sight) {
-        if !self.is_watched() {
-            return;
+        if self.is_watched() {
+            self.add(rt, &told_line(self.alloc, sight));
         }
-        let line = told_line(self.alloc, sight);
+    }
+
+    /// Has each operator who watches hear that there was no memory for a line. It does nothing
+    /// while nobody watches.
+    pub fn leave_out<R: Wait>(&self, rt: &R) {
+        if self.is_watched() {
+            self.add(rt, &Err(AllocError));
+        }
+    }
+
+    // Adds a line to those that wait for each operator who watches.
+    fn add<R: Wait>(&self, rt: &R, line: &Result<String, AllocError>) {
         for lookout in &self.lookouts {
             if let Some(waiting) = lookout.waiting.lock(rt).as_mut() {
-                waiting.add(&line);
+                waiting.add(line);
             }
             lookout.bell.unpark();
         }

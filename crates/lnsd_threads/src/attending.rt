@@ -99,12 +99,11 @@ impl<'x, B: Books, R: Wait, G: Gate, C: LifeClock, S: NameSource> Attendant<'x, 
 
     // An operator whose line is no order, or who doesn't read the answer, is given up.
     fn obey(&self, stream: UnixStream) {
-        let (rt, alloc, now) = (
-            self.context.rt,
-            self.context.alloc,
-            self.context.clock.now(),
-        );
-        match self.read_order(&stream) {
+        let (rt, alloc) = (self.context.rt, self.context.alloc);
+        let order = self.read_order(&stream);
+        // The time of the answer: an order may come seconds after its operator.
+        let now = self.context.clock.now();
+        match order {
             Some(Order::Stop) => {
                 self.control.keep_waiting(rt, stream);
                 self.server.end(rt);

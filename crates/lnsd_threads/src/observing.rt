@@ -41,17 +41,31 @@ impl<B: Books> LiveServer<B> {
     ) -> Turn
         ensures share { HasMade seat.old seat.new moment (call_kind_of event) result }
     {
-        let Handled { turn, closed, .. } = self.sessions.handle(rt, seat, moment, event);
-        self.tell_closed(rt, moment, closed);
+        let Handled {
+            turn,
+            closed,
+            lacks_frames,
+            ..
+        } = self.sessions.handle(rt, seat, moment, event);
+        self.tell_closed(rt, moment, closed, lacks_frames);
         turn
     }
 
     // Notes frames whose windows were closed at this moment: the last uplinks of their devices, and
-    // the refused ones.
-    fn tell_closed<R: Wait>(&self, rt: &R, moment: Moment, closed: Vec<ClosedFrame>) {
+    // the refused ones. If memory ran out for a frame, operators hear that something is left out.
+    fn tell_closed<R: Wait>(
+        &self,
+        rt: &R,
+        moment: Moment,
+        closed: Vec<ClosedFrame>,
+        lacks_frames: bool,
+    ) {
         let Some(control) = &self.control else {
             return;
         };
+        if lacks_frames {
+            control.watch.leave_out(rt);
+        }
         if closed.is_empty() {
             return;
         }

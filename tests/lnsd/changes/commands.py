@@ -136,19 +136,24 @@ class Commands:
     def killed_in_calls(self, words: Sequence[str], changes: Changes) -> None:
         """A command is killed in the first calls of the disk, in the last ones, and in some between
         them."""
-        is_whole = lambda number: self.killed_in(number, words, changes) == 0
-        # one more than it makes
-        calls = bisect_left(range(MOST_CALLS), True, lo=1, key=is_whole)
-        assert calls < MOST_CALLS, f"{words[0]} makes too many calls of the disk"
+        calls = 1 + self.calls_of(words, changes)
         ends = {*range(1, min(EDGE, calls)), *range(max(1, calls - EDGE), calls)}
         between = self.chance.sample(range(1, calls), min(calls - 1, EDGE))
         for number in sorted({*ends, *between}):
             assert self.killed_in(number, words, changes) == -signal.SIGKILL
 
-    def killed_in(self, number: int, words: Sequence[str], changes: Changes) -> int:
+    def calls_of(self, words: Sequence[str], changes: Changes, **how: int) -> int:
+        """How many calls of the disk a command makes: it is killed in no later one."""
+        is_whole = lambda number: self.killed_in(number, words, changes, **how) == 0
+        calls = bisect_left(range(MOST_CALLS), True, lo=1, key=is_whole)
+        assert calls < MOST_CALLS, f"{words[0]} makes too many calls of the disk"
+        return calls - 1
+
+    def killed_in(self, number: int, words: Sequence[str], changes: Changes, **how: int) -> int:
         """A command on copies is killed in the call of the disk of this number; its status."""
         with self.copies(words, changes) as (said, copied):
-            status, _, _ = self.program.run(*said, env=self.with_disk(KILLING_CALL=number))
+            how = {"KILLING_CALL": number, **how}
+            status, _, _ = self.program.run(*said, env=self.with_disk(**how))
             is_done = self.is_done(words[0], copied)
             assert is_done or status == -signal.SIGKILL, f"{words[0]} ends well, and isn't done"
         return status

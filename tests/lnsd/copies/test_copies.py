@@ -16,6 +16,7 @@ from bozintar.server import Program
 from ..conftest import NewServer
 from ..pairs import EUI, HEARD, OWNER, records
 from .writes import (
+    EACH,
     GENERATION_AT,
     HEADER,
     OPEN,
@@ -87,6 +88,18 @@ def test_plain_copy(made: Program) -> None:
         life.go_on(1)
     with pytest.raises((AssertionError, image.Refused)):
         decisions_in(front + bytes(life.disk[half:]))
+
+
+def test_area_that_is_written_after_its_gate_was_read(
+    made: Program, library: str, folder: Path, seed: int
+) -> None:
+    """The fourth checkpoint begins between the reads of the first area's gate and header: half of
+    its records are written then, and the rest before the second area is read."""
+    length, new = Life(Path(made.store)).length, folder / NEW
+    how = Served(Path(made.store), library, seed, 3).begin(folder, 8 * EACH + 15, 5)
+    how |= {"AT": str(SUPERBLOCK + 1), "THEN": str(SUPERBLOCK + length)}
+    assert made.run("copy", made.store, str(new), env=how)[0] == 0
+    assert decisions_in(new.read_bytes()) == 4 * EACH
 
 
 @pytest.mark.slow

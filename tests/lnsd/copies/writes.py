@@ -5,6 +5,7 @@ import random
 import struct
 from collections.abc import Iterator
 from dataclasses import replace
+from itertools import islice
 from pathlib import Path
 
 import preloads
@@ -18,7 +19,8 @@ OPEN = b"\xa5"
 
 # Before each read at a place of a file, up to MOST of the writes of the file WRITES are made on the
 # file STORE. Each has its place (8 bytes) and length (4) in the machine's order, and its bytes. How
-# many were made is in the file MADE.
+# many were made is in the file MADE. If AT is a place, MOST are made before a read there, all before
+# a read from THEN on, and none before others.
 WRITING = r"""
 #define _GNU_SOURCE
 #include <fcntl.h>
@@ -54,7 +56,10 @@ ssize_t pread64(int file, void *bytes, size_t length, off64_t place) {
         store = open(getenv("STORE"), O_WRONLY);
         chance = atol(getenv("SEED"));
     }
-    for (uint64_t left = drawn(atol(getenv("MOST"))); left && write_one(writes, store); left--) made++;
+    long at = getenv("AT") ? atol(getenv("AT")) : -1, most = atol(getenv("MOST"));
+    uint64_t left = at < 0 || place == at ? (at < 0 ? drawn(most) : most) : 0;
+    if (at >= 0 && place >= atol(getenv("THEN"))) left = UINT64_MAX;
+    for (; left && write_one(writes, store); left--) made++;
     FILE *count = fopen(getenv("MADE"), "w");
     fprintf(count, "%ld", made);
     fclose(count);
@@ -144,15 +149,16 @@ class Served:
         self.chance, self.path, self.most = random.Random(seed), path, most
         self.empty, self.library = path.read_bytes(), library
 
-    def begin(self, folder: Path, before: int) -> dict[str, str]:
+    def begin(self, folder: Path, before: int, after: int | None = None) -> dict[str, str]:
         """Makes the store of a server that has made this many writes; the environment in which a
-        program's reads are between the next ones."""
+        program's reads are between the next ones, of which there are as many or no limit."""
         self.path.write_bytes(self.empty)
         life = Life(self.path)
         life.go_on(before)
         self.path.write_bytes(life.disk)
         written = b"".join(
-            struct.pack("=qI", place, len(content)) + content for place, content in life.writes
+            struct.pack("=qI", place, len(content)) + content
+            for place, content in islice(life.writes, after)
         )
         (folder / "writes").write_bytes(written)
         files = {"WRITES": folder / "writes", "MADE": folder / "made", "STORE": self.path}

@@ -17,8 +17,8 @@ from ..pairs import EUI, HEARD
 
 # places of a server
 PLACES = 96
-# how long a link may take to greet, and an operator to give an order, in seconds
-GREETING, ORDER = 10, 2
+# how long a link may take to greet, in seconds
+GREETING = 10
 COUNTS = ("dropped", "faulted", "taken_over", "silent")
 # the lines of `lnsd watch`
 NAME = r"(gateway|application) ([0-9A-F]{16}|[0-9]|1[0-5])"

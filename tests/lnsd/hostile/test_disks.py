@@ -1,7 +1,6 @@
 """A disk whose calls fail, or whose syncs are slow. The C library's calls are replaced in the
 server's process, so a C compiler is needed."""
 
-import time
 from collections.abc import Sequence
 from concurrent.futures import ThreadPoolExecutor
 
@@ -13,9 +12,10 @@ from bozintar.processes import HOST, free_port
 from bozintar.server import Program
 from lnsd.calls import kinds_of
 
+from ..clocks import Clock, await_rest, held_syncs
 from ..conftest import Environment, NewServer
 from ..pairs import OWNER, Pair, finish, formatted, linked, records
-from .floods import DEVICES, decided, heard_until, long_uplinks
+from .floods import DEVICES, Flood, decided
 from .operating import failure
 
 # more than the calls of a run of `Pair.play` and two more uplinks
@@ -26,16 +26,18 @@ AT_ONCE = 4
 
 
 def calls_of_opening(server: Program, with_disk: Environment) -> int:
-    """How many calls an opening makes of a disk: if one of them fails, nothing is served."""
-    for number in range(1, CALLS):
+    """How many calls an opening makes of a disk: it is killed in no later one. If one of them fails,
+    nothing is served."""
+    opening = "list", server.store
+    killed = lambda number: server.run(*opening, env=with_disk(KILLING_CALL=number))[0] < 0
+    count = next(number for number in range(CALLS) if not killed(number + 1))
+    assert server.run(*opening) == (0, "devices 0 seq 0\n", "")
+    for number in range(1, count + 1):
         how = with_disk(FAILING_CALL=number)
-        came = server.run("list", server.store, env=how)
-        if came != FAILED:
-            assert came == (0, "devices 0 seq 0\n", ""), f"a list whose call {number} fails"
-            return number - 1
+        assert server.run(*opening, env=how) == FAILED, f"a list whose call {number} fails"
         words = ("serve", server.store, "--listen", f"{HOST}:{free_port()}", "--links", "1")
         assert server.run(*words, env=how) == FAILED, f"a server whose call {number} fails"
-    raise AssertionError(f"an opening makes more than {CALLS} calls")
+    return count
 
 
 def has_failed(server: Program, number: int, with_disk: Environment) -> bool:
@@ -100,39 +102,38 @@ def test_restored_store_is_synced(server: Program, with_disk: Environment) -> No
     assert "wfd" in logged(server, with_disk, "restore", server.store, f"{server.folder}/new")
 
 
-@pytest.mark.timed
 @pytest.mark.usefixtures("proved")
 def test_failing_disk_and_application_that_does_not_read(
-    new_server: NewServer, with_disk: Environment
+    new_server: NewServer, with_disk: Environment, clock: Clock
 ) -> None:
-    """A sync fails while an application doesn't read what it is sent: the end doesn't wait."""
+    """A sync fails while an application doesn't read: the end comes, though no time passes."""
     server = new_server(4096, records(DEVICES, OWNER))
-    begun = time.monotonic()
-    try:
-        long_uplinks(server.serve(2, env=with_disk(FAILING_CALL=600))).close()
-    except LinkEnded:
-        pass
+    flood = Flood(server, clock, with_disk(FAILING_CALL=600, CLOCK=clock.file))
+    with pytest.raises(LinkEnded):
+        flood.sent()
     assert server.ended() == FAILED
-    assert time.monotonic() - begun < 12
+    flood.close()
 
 
-@pytest.mark.timed
 def test_slow_syncs(new_server: NewServer, with_disk: Environment) -> None:
-    """Syncs take 300 ms: what waits goes into one batch, and nothing else waits for the disk."""
+    """While a sync lasts, what waits goes into one batch, and nothing else waits for the disk."""
     server = new_server(32, records(20, OWNER))
-    how = with_disk(SLOW_SYNCS=1_000_000, SLOW_MS=300)
-    application, gateway = linked(server.serve(2, env=how))
-    begun = time.monotonic()
-    for number in range(20):
-        application.asks(f"queue {load.dev_eui(number)} {number} 7 u -")
-    for _ in range(3):
-        application.asks("hello")
-    refused = [application.hears() for _ in range(3)]
-    assert refused == ["refused 51"] * 3, "refusals don't wait"
-    assert time.monotonic() - begun < 0.3, "a refusal waited for the disk"
+    log = f"{server.folder}/log"
+    how = with_disk(HELD_SYNCS=server.folder, CALL_LOG=log)
+    application, gateway = linked(server, env=how)
+    before = len(kinds_of(log))
+    with held_syncs(server):
+        for number in range(20):
+            application.asks(f"queue {load.dev_eui(number)} {number} 7 u -")
+            await_rest(server, [application])
+        assert kinds_of(log)[before:] == "w", "one batch is written"
+        for _ in range(3):
+            application.asks("hello")
+        refused = [application.hears() for _ in range(3)]
+        assert refused == ["refused 51"] * 3, "a refusal waited for the disk"
     came = [application.hears() for _ in range(20)]
     assert came == [f"queued {load.dev_eui(number)} {number}" for number in range(20)]
-    assert 0.6 <= time.monotonic() - begun < 2, "20 requests are two batches"
+    assert kinds_of(log)[before:] == "wswsws", "20 requests are two batches"
     finish(server, [application, gateway])
 
 
@@ -141,22 +142,25 @@ def count(lines: Sequence[str], start: str) -> int:
     return sum(line.startswith(start) for line in lines)
 
 
-@pytest.mark.usefixtures("proved")
 def test_4096_decisions_that_wait(new_server: NewServer, with_disk: Environment) -> None:
-    """The first commit takes a second: of 5,000 requests meanwhile 4,096 wait, and 23 is the
-    answer to each of the others. What was decided is sent, or counted as dropped: of what leaves
-    at once after that commit, 1,024 lines wait for an application."""
+    """While the first request is committed, of 5,000 more 4,096 wait, and 23 is the answer to each
+    of the others. What was decided is sent, or counted as dropped: of what leaves at once after
+    that commit, 1,024 lines wait for an application."""
     server = new_server(4096, records(4096, OWNER))
-    application = Application(server.serve(1, env=with_disk(SLOW_SYNCS=3, SLOW_MS=500)), OWNER)
-    lines = (f"mac {load.dev_eui(number % 4096)} 06" for number in range(ASKED))
-    application.say(b"".join(map(wire.request, lines)))
-    came = heard_until(application, ASKED, quiet=10)
+    application = Application(server.serve(1, env=with_disk(HELD_SYNCS=server.folder)), OWNER)
+    await_rest(server, [application])
+    with held_syncs(server):
+        lines = [f"mac {load.dev_eui(number % 4096)} 06" for number in range(1 + ASKED)]
+        for asked in lines[:1], lines[1:]:
+            application.say(b"".join(map(wire.request, asked)))
+            await_rest(server, [application])
+    await_rest(server)
     application.end()
-    came += [wire.line_of(content) for content in application.rest()]
+    came = [wire.line_of(content) for content in application.rest()]
     application.close()
     end, made = server.ended(), decided(server) - 4096
     sent = count(came, "macqueued ")
-    assert WAITING < made <= WAITING + 64
-    assert came.count("refused 23") == ASKED - made
-    assert len(came) == sent + ASKED - made, "all that came"
+    assert made == 1 + WAITING
+    assert came.count("refused 23") == ASKED - WAITING
+    assert len(came) == sent + ASKED - WAITING, "all that came"
     assert end == (0, "", f"dropped {made - sent}\nfaulted 0\n")

@@ -1,23 +1,29 @@
 """Requests faster than the disk, applications that don't read, and more devices and links than the
 server takes."""
 
-import threading
-import time
+import socket
+from concurrent.futures import ThreadPoolExecutor
 
 import pytest
 from bozintar import load, wire
+from bozintar.devices import Device
 from bozintar.links import Application, Gateway, Link, Silent
 from bozintar.server import Ended, Program
 from bozintar.wire import PROVISION
 
 from .. import pairs
+from ..clocks import Clock, await_rest
 from ..conftest import NewServer
-from ..pairs import EUI, HEARD, OWNER, await_links, finish, greeted, records
-from .floods import DEVICES, LONG, PATIENCE, ROOM, Flood, decided, heard_until, long_uplinks
+from ..pairs import EUI, HEARD, OWNER, WINDOW, finish, greeted, records
+from .conftest import NewWatcher
+from .floods import DEVICES, LONG, PATIENCE, ROOM, Flood, decided
+from .operating import heard, operator
 
 REQUESTS = 400_000
 # how long the server waits at its end for a peer that doesn't read, in seconds
 WAIT = 8
+# uplinks of a device at once, and the most lines of a write
+LINES, WRITTEN = 300, 64
 # devices that each of 16 applications provisions, in each round, into this many slots
 EACH, ROUNDS, SLOTS = 30, 9, 4096
 
@@ -33,13 +39,13 @@ def test_requests_faster_than_disk(new_server: NewServer) -> None:
     application = Application(address, OWNER, patience=PATIENCE)
     lines = (f"mac {load.dev_eui(number % devices)} 06" for number in range(count))
     asked = b"".join(map(wire.request, lines))
-    sender = threading.Thread(target=application.say, args=(asked,), daemon=True)
-    sender.start()
-    came = heard_until(application, count)
-    sender.join()
-    for link in (application, *others):
+    for link in others:
         link.end()
-    came += [wire.line_of(content) for content in application.rest()]
+    with ThreadPoolExecutor() as pool:
+        rest = pool.submit(application.rest)
+        application.say(asked)
+        application.end()
+    came = [wire.line_of(content) for content in rest.result()]
     for link in (application, *others):
         link.close()
     dropped = dropped_of(server.ended(PATIENCE))
@@ -97,34 +103,100 @@ def count(server: Program, end: Ended, lines: int, more: int) -> None:
     assert made <= lines + dropped <= made + more
 
 
-def flood(server: Program) -> Flood:
-    """A flood of a server."""
-    return long_uplinks(server.serve(2))
-
-
 @pytest.mark.usefixtures("proved")
-def test_application_that_reads_late(flooded: Program) -> None:
+def test_application_that_reads_late(flooded: Program, clock: Clock) -> None:
     """An application reads nothing until all inputs have ended, and the server waits for it: each
     line is sent, or counted as dropped."""
-    made = flood(flooded)
-    time.sleep(2)
+    made = Flood(flooded, clock, clock.how).sent()
+    clock.moves(WAIT / 4)
+    await_rest(flooded)
     assert flooded.running().poll() is None, "the server doesn't wait for the application"
     lines = made.lines()
     count(flooded, flooded.ended(), lines, 0)
     made.close()
 
 
-@pytest.mark.timed
 @pytest.mark.usefixtures("proved")
-def test_application_that_neither_reads_nor_closes(flooded: Program) -> None:
+def test_application_that_neither_reads_nor_closes(flooded: Program, clock: Clock) -> None:
     """The server's end waits eight seconds for an application that neither reads nor closes."""
-    made = flood(flooded)
-    begun = time.monotonic()
-    end = flooded.ended(60)
-    assert WAIT - 2 < time.monotonic() - begun < WAIT + 8
+    made = Flood(flooded, clock, clock.how).sent()
+    clock.moves(WAIT - 1)
+    await_rest(flooded)
+    assert flooded.running().poll() is None, "the server doesn't wait for the application"
+    clock.moves(1)
+    end = flooded.ended()
     # of the piece that wasn't sent whole some lines may have come all the same
     count(flooded, end, made.lines(), 64)
     made.close()
+
+
+@pytest.fixture
+def short_segments(monkeypatch: pytest.MonkeyPatch) -> None:
+    """Links whose two sockets hold little, since TCP has short segments."""
+
+    def connected(address: tuple[str, int], *_: object) -> socket.socket:
+        made = socket.socket()
+        made.setsockopt(socket.IPPROTO_TCP, socket.TCP_MAXSEG, 536)
+        made.setsockopt(socket.SOL_SOCKET, socket.SO_RCVBUF, ROOM)
+        made.connect(address)
+        return made
+
+    monkeypatch.setattr("bozintar.links.connected", connected)
+
+
+def send(server: Program, clock: Clock, device: Device, gateway: Gateway) -> None:
+    """Uplinks come at once, and are decided."""
+    clock.passes(1, server, [gateway])
+    gateway.say(b"".join(heard(device.uplink(7, bytes(222))) for _ in range(LINES)))
+    clock.passes(WINDOW, server, [gateway])
+    await_rest(server)
+
+
+def wait(server: Program, clock: Clock) -> None:
+    """More time passes than a peer has that doesn't read. A write that is tried again may find room
+    for a little more, and then the time begins again."""
+    for _ in range(4):
+        clock.passes(WAIT, server, [])
+    await_rest(server)
+
+
+@pytest.mark.usefixtures("short_segments")
+def test_lines_that_wait(new_server: NewServer, clock: Clock, watch: NewWatcher) -> None:
+    """An application of `lnsd run` that reads nothing keeps its link. When its input has ended and
+    its link is reset, the lines after those of one write come on the link that has its name then,
+    in order. Those of this write are reported as dropped. Lines that wait when the server ends are
+    dropped, too."""
+    server, device = new_server(records=records(1, OWNER)), load.device(0)
+    address = server.run_on(env=clock.how)
+    watcher, gateway, older = watch(server), Gateway(address, EUI), Application(address, OWNER)
+    send(server, clock, device, gateway)
+    wait(server, clock)
+    assert server.status()["dropped"] == "0"
+    older.end()
+    await_rest(server, [older])
+    newer = Application(address, OWNER)
+    await_rest(server, [newer])
+    older.reset()
+    await_rest(server)
+    dropped = int(server.status()["dropped"])
+    assert 1 < dropped <= WRITTEN
+    watcher.await_line(f"dropped application {OWNER} {dropped}")
+    counters = [0]
+    while counters[-1] < LINES:
+        counters.append(int(newer.hears().split(" ")[3]))
+    assert counters[1:] == list(range(counters[1], LINES + 1))
+    newer.close()
+    last = Application(address, OWNER)
+    await_rest(server, [last])
+    send(server, clock, device, gateway)
+    with operator(server, b"stop\n"):
+        wait(server, clock)
+        status, _, said = server.ended()
+    gateway.close()
+    lost = int(said.splitlines()[0].removeprefix("dropped ")) - dropped
+    # of the piece that wasn't sent whole some lines may have come all the same
+    assert status == 0 and 0 <= lost + len(last.rest()) - LINES <= WRITTEN
+    assert lost > WRITTEN, "lines waited"
 
 
 def ask_for_devices(owner: Application, round_: int) -> None:
@@ -142,7 +214,7 @@ def test_full_table(new_server: NewServer) -> None:
     server = new_server(SLOTS)
     address = server.serve(16)
     owners = [Application(address, number) for number in range(16)]
-    await_links(owners)
+    await_rest(server, owners)
     for owner in owners:
         owner.asks(pairs.PROVISION)
     came = sorted(owner.hears().split(" ")[0] for owner in owners)

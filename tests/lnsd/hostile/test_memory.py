@@ -5,27 +5,33 @@ import sys
 import time
 from collections.abc import Callable
 from concurrent.futures import ThreadPoolExecutor
+from contextlib import suppress
+from functools import partial
+from pathlib import Path
 
 import preloads
 import pytest
+from bozintar import load, wire
 from bozintar.links import Application, Gateway, Link, Silent
 from bozintar.links import Ended as LinkEnded
+from bozintar.processes import Failed, await_that
 from bozintar.server import Ended, Program
 from bozintar.wire import Copy
 
-from ..pairs import EUI, OWNER, SUCCESS
+from ..clocks import await_rest
+from ..pairs import EUI, OWNER, SUCCESS, formatted, records
 from ..seen import Meter, Seen
-from .operating import failure
+from .operating import all_of, failure, heard, operator
 
 # this many requests are refused, one in each life, spread over those of a life
 TRIED = 30
-# how long a client waits for what may never come, in seconds
-PATIENCE = 0.6
+# how long a client waits for what has to come, and for what may never come, in seconds
+PATIENCE, LITTLE = 60, 0.6
 # lives that run at once: most of the time each of them waits
 AT_ONCE = 8
 ENDS = re.compile(r"dropped \d+\nfaulted 0\n")
 WHOLE, REFUSED = (0, "", "dropped 0\nfaulted 0\n"), failure("refused 30")
-DEVICES = 2
+DEVICES, MAC = 2, wire.request(f"mac {load.dev_eui(0)} 06")
 
 
 class Life:
@@ -33,6 +39,7 @@ class Life:
 
     def __init__(self, program: Program, seen: Seen, how: dict | None = None) -> None:
         self.program, self.seen = program, seen
+        self.patience = LITTLE if how and how["REFUSED_REQUEST"] != "0" else PATIENCE
         self.meters: list[Meter] = list(seen.meters.values())
         self.refused: list[str] = []
         self.links: list[Link] = []
@@ -75,11 +82,13 @@ class Life:
             self.seen.line(OWNER, line)
 
     def await_one(self, link: Link) -> None:
-        """Waits a while for something on a link."""
-        last = time.monotonic() + PATIENCE
+        """Waits a while for something on a link, until the server is at rest."""
+        last = time.monotonic() + self.patience
         while not link.is_over and time.monotonic() < last:
             if self.read(link, max(0.01, last - time.monotonic())):
                 return
+        await_rest(self.program)
+        self.read(link, 0)
 
     def asks(self, line: str) -> None:
         """The application asks, and is answered."""
@@ -117,7 +126,7 @@ class Life:
         """The inputs end, and what comes then is seen too; how the server ends."""
         for link in self.links:
             link.end()
-        last = time.monotonic() + 10
+        last = time.monotonic() + PATIENCE
         for link in self.links:
             while not link.is_over and time.monotonic() < last:
                 self.read(link, 0.1)
@@ -143,15 +152,19 @@ def tried(path: str, library: str, number: int) -> tuple[int, Ended]:
     why = f"request {number} was refused"
     with Program(path) as program:
         assert program.format(slots=DEVICES) == SUCCESS
-        file = f"{program.folder}/requests"
+        file = Path(program.folder, "requests")
         how = preloads.environment(library, REFUSED_REQUEST=number, REQUESTS=file)
         end, refused = live(program, seen, how)
         assert end == REFUSED or end[:2] == (0, "") and ENDS.fullmatch(end[2]), why
         assert set(refused) <= {"refused 30"}, why
         next_life(program, seen, why)
         assert not any(seen.faults.values()), f"{why}: {dict(seen.faults)}"
-        with open(file, "rb") as requests:
-            return int.from_bytes(requests.read(8), sys.byteorder), end
+        return made(file), end
+
+
+def made(file: Path) -> int:
+    """How many requests a program has made."""
+    return int.from_bytes(file.read_bytes(), sys.byteorder)
 
 
 def next_life(program: Program, seen: Seen, why: str) -> None:
@@ -180,3 +193,55 @@ def test_refused_request(program: str, replaced: Callable[[str], str]) -> None:
         found = list(pool.map(lambda number: tried(program, library, number), numbers))
     ends = sum(end == REFUSED for _, end in found)
     assert 0 < ends < TRIED, "all ends are the same"
+
+
+def has_closed(program: Program) -> bool:
+    """Whether a server has closed all windows, or has ended."""
+    with suppress(OSError):
+        return b"\nwindows 0\n" in all_of(operator(program, b"status\n"))
+    return program.running().poll() is not None
+
+
+def watched(path: str, library: str, number: int) -> tuple[int, int, bool]:
+    """A life of `lnsd run` whose request of this number is refused, with an uplink and a request:
+    how many requests it had made before its links came, and at the end; and whether that came by
+    itself."""
+    with formatted(path, records=records(1, OWNER)) as program:
+        file = Path(program.folder, "requests")
+        how = preloads.environment(library, REFUSED_REQUEST=number, REQUESTS=file)
+        address, why = program.run_on(2, env=how), f"request {number} was refused"
+        watcher = operator(program, b"watch\n")
+        assert watcher.recv(9) == b"watching\n"
+        await_rest(program)
+        first, links = made(file), [Gateway(address, EUI), Application(address, OWNER)]
+        await_rest(program)
+        for link, said in zip(links, (heard(load.device(0).uplink(7, b"\x01")), MAC)):
+            with suppress(LinkEnded):
+                link.say(said)
+        await_rest(program)
+        await_that(f"{why}: no window is open", lambda: has_closed(program), fault=Failed)
+        for link in links:
+            link.close()
+        await_rest(program)
+        last, has_ended = made(file), program.running().poll() is not None
+        if not has_ended:
+            operator(program, b"stop\n").close()
+        end, lines = program.ended(), all_of(watcher).decode()
+        assert end == REFUSED if has_ended else last < number or end[0] == 0, f"{why}: {end}"
+        seen = lines.count("linked ") + lines.count("ended ")
+        assert has_ended or seen % 2 == 0 or "left_out " in lines, f"{why}: {lines}"
+        return first, last, has_ended
+
+
+@pytest.mark.usefixtures("proved")
+def test_refused_request_of_a_life_that_goes_on(
+    program: str, replaced: Callable[[str], str]
+) -> None:
+    """Each request is refused in a life of its own. The server closes its windows, reports its
+    links, or how many lines it left out, and ends well when it is stopped. Or it ends by itself,
+    with 1 and `lnsd: refused 30`."""
+    library = replaced(preloads.REQUESTS)
+    first, last, _ = watched(program, library, 0)
+    with ThreadPoolExecutor(AT_ONCE) as pool:
+        found = pool.map(partial(watched, program, library), range(first + 1, last + 1))
+        assert {has_ended for _, _, has_ended in found} == {False, True}, "all ends are the same"

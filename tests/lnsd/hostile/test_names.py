@@ -11,8 +11,9 @@ from bozintar import load
 from bozintar.links import Application, Ended, Gateway, Link, Silent
 from bozintar.processes import HOST, free_port
 from bozintar.server import Program
-from lnsd.anew import await_status
+from lnsd.anew import PATIENCE, await_status
 
+from ..clocks import Clock, await_rest
 from ..conftest import NewServer
 from ..pairs import EUI, HEARD, OWNER, records
 from .conftest import NewWatcher
@@ -20,9 +21,11 @@ from .operating import PLACES, assert_stopped, failure
 
 # invented gateways, and strangers that stay silent and come again
 INVENTED, SILENT = 64, 400
+# places of a server that are soon taken, and silent strangers that have gone before
+CROWD, GONE = 3, 9
 # how long a gateway that is listed may take to connect and be heard, in seconds, and how often that
-# is tried
-SOON, TRIES = 5, 3
+# is tried: it would take 13 if strangers had ten seconds each, since 128 wait for 96 places
+SOON, TRIES = 9, 3
 OTHER = "00000000000000B2"
 LISTED = f"gateway {EUI}\napplication {OWNER}\n"
 # what isn't a line of a list, by docs/OPERATING.md
@@ -65,7 +68,7 @@ def server(new_server: NewServer, names: Path) -> Program:
     return made
 
 
-def is_closed(link: Link, seconds: float = 2) -> bool:
+def is_closed(link: Link, seconds: float = PATIENCE) -> bool:
     """Whether the server closes a link, on which nothing comes."""
     try:
         link.read(seconds)
@@ -76,16 +79,15 @@ def is_closed(link: Link, seconds: float = 2) -> bool:
     return False
 
 
-def uplink_comes(server: Program, application: Application, counter: int) -> bool:
-    """Whether the listed gateway connects, and its uplink comes out, soon."""
+def assert_uplink(server: Program, application: Application, counter: int) -> None:
+    """The listed gateway connects, and its uplink comes out, soon."""
     assert server.address
-    device, begun = load.device(0), time.monotonic()
+    device, last = load.device(0), time.monotonic() + SOON
     device.next_up = counter
     with Gateway(server.address, EUI, patience=SOON) as gateway:
         gateway.hands_in(device.uplink(7, b"\x01"), HEARD)
-        line = application.hears(SOON)
+        line = application.hears(last - time.monotonic())
     assert line.split(" ")[:4] == ["up", load.dev_eui(0), "1", str(counter)]
-    return time.monotonic() - begun < SOON
 
 
 @pytest.mark.timed
@@ -103,7 +105,7 @@ def test_invented_names(server: Program, watch: NewWatcher) -> None:
                 assert is_closed(link)
             status = await_status(server, unlisted=INVENTED)
             assert (status["gateways"], status["faulted"]) == ("0", "0")
-            assert uplink_comes(server, application, 1)
+            assert_uplink(server, application, 1)
         came = watcher.await_line(f"linked gateway {EUI}")
         assert sum(line.startswith("unlisted gateway DEAD") for line in came) == INVENTED
     await_status(server, links=0)
@@ -161,11 +163,32 @@ def test_silent_strangers(server: Program) -> None:
         try:
             for number in range(TRIES):
                 strangers.come_again()
-                assert uplink_comes(server, application, number + 1)
+                assert_uplink(server, application, number + 1)
         finally:
             strangers.close()
     assert int(await_status(server, links=0)["silent"]) > 0
     assert server.stop()[0] == 0
+
+
+def test_time_to_greet(new_server: NewServer, names: Path, clock: Clock) -> None:
+    """If names are listed and all places are taken, the one link that hasn't greeted has a second
+    for that. Links that have greeted don't count, nor do silent ones that have gone."""
+    server = new_server()
+    address = server.run_on(CROWD, names=str(names), env=clock.how)
+    for _ in range(GONE):
+        Link(address).close()
+    await_rest(server)
+    await_status(server, links=0)
+    with Application(address, OWNER), Gateway(address, EUI), Link(address) as late:
+        await_status(server, links=CROWD, gateways=1, applications=1)
+        # twice, since a read that begins when the time is over waits a millisecond
+        for seconds, closes in ((0.45, False), (0.1, True)):
+            for _ in range(2):
+                clock.passes(seconds, server, [late])
+            await_rest(server)
+            assert is_closed(late, 0) == closes, "after 0.9 seconds, or 1.1"
+    await_status(server, links=0)
+    assert_stopped(server, silent=1)
 
 
 def test_reload(server: Program, names: Path) -> None:
@@ -188,6 +211,22 @@ def test_reload(server: Program, names: Path) -> None:
     with Gateway(server.address, EUI) as first:
         assert is_closed(first)
     await_status(server, unlisted=1, links=0)
+    assert_stopped(server)
+
+
+def test_reload_that_lists_nobody(server: Program, names: Path) -> None:
+    """Of several links whose names aren't listed any more each is closed."""
+    names.write_text(f"{LISTED}gateway {OTHER}\n", encoding="utf-8")
+    assert server.address and server.run("reload", server.store) == (0, "", "")
+    links: list[Link] = [Gateway(server.address, eui) for eui in (EUI, OTHER)]
+    links.append(Application(server.address, OWNER))
+    await_status(server, gateways=2, applications=1)
+    names.write_text("", encoding="utf-8")
+    assert server.run("reload", server.store) == (0, "", "")
+    await_rest(server)
+    assert [is_closed(link, 0) for link in links] == [True] * 3
+    for link in links:
+        link.close()
     assert_stopped(server)
 
 

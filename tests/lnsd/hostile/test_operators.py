@@ -1,28 +1,31 @@
 """Operators, strangers, links that come anew, and applications that are away, of a server whose
 links come and go (`lnsd run`)."""
 
-import os
 import re
 import signal
 import socket
 import threading
 import time
+from dataclasses import replace
 
 import pytest
 from bozintar import load, wire
 from bozintar.devices import Device
 from bozintar.links import Application, Gateway, Link
+from bozintar.processes import await_that
 from bozintar.server import Program
-from lnsd.anew import PATIENCE, await_status, connect_anew
+from bozintar.store import Record
+from lnsd.anew import PATIENCE, await_status, connect_anew, used
 from lnsd.unread import await_read
 
-from ..conftest import NewServer
+from ..clocks import Clock, await_rest, held_syncs, sleeps
+from ..conftest import Environment, NewServer
 from ..pairs import EUI, OWNER, records
 from .conftest import NewWatcher
 from .operating import (
+    COUNTS,
     GREETING,
     NOTHING_MORE,
-    ORDER,
     PLACES,
     all_of,
     assert_stopped,
@@ -42,9 +45,9 @@ LINKS, COPIES = 8, 1250
 QUEUES, ROUNDS = 20, 60
 WATCHING = b"watching\n"
 # silent clients of the control socket, and how long `lnsd stop` may take beside them, in seconds
-MANY, STOPPED = 120, 3
+MANY, STOPPED = 120, 15
 # how many may watch, and how long the place of one who has gone may be taken, in seconds
-WATCHERS, FREE = 4, 2
+WATCHERS, FREE = 4, 20
 COMMANDS = ("stop", "status", "devices", "watch", "reload")
 DEVICES = "devices 0 seq 0\n"
 NONSENSE = (b"", b"\n", b"Status\n", b"status", b"status\nstop\n", bytes(40), b"\xff\n")
@@ -125,11 +128,14 @@ def test_checkpoint(server: Program, watch: NewWatcher) -> None:
     else:
         pytest.fail(f"no checkpoint was written in {ROUNDS} rounds")
     watcher.await_line("checkpoint")
+    application.asks(f"mac {devices[0].dev_eui} 06")
+    assert application.hears().startswith("macqueued ")
     assert server.status()["checkpoints"] == "1"
     for link in (application, gateway):
         link.close()
     assert server.stop()[0] == 0
-    assert watcher.rest()[1:] == (0, "")
+    lines, *end = watcher.rest()
+    assert (end, lines.count("checkpoint")) == ([0, ""], 0), "another checkpoint"
 
 
 @pytest.mark.parametrize("order", NONSENSE, ids=ascii)
@@ -141,25 +147,85 @@ def test_nonsense(empty: Program, order: bytes) -> None:
     assert_stopped(empty)
 
 
-@pytest.mark.timed
-def test_silent_operators(empty: Program) -> None:
-    """Operators who say nothing are given up, and hold up nobody."""
-    silent = [operator(empty) for _ in range(7)]
-    begun = time.monotonic()
-    empty.status()
-    assert time.monotonic() - begun < ORDER / 2, "a status waited for the silent"
-    silent += [operator(empty) for _ in range(8)]
-    empty.status()
-    assert time.monotonic() - begun < 4 * ORDER, "silent operators aren't given up"
+def test_silent_operators(new_server: NewServer, clock: Clock) -> None:
+    """Operators who say nothing are given up. Seven hold up nobody, also if no time passes. One who
+    is alone later has two seconds again."""
+    server = new_server()
+    server.run_on(env=clock.how)
+    silent = [operator(server) for _ in range(7)]
+    server.status()
+    silent += [operator(server) for _ in range(8)]
+    clock.stands(False)
+    server.status()
     for connection in silent:
         assert all_of(connection) == b""
-    assert_stopped(empty)
+    clock.stands()
+    slow = operator(server)
+    clock.passes(1, server, [])
+    slow.sendall(b"status\n")
+    assert all_of(slow).endswith(b"\n\n"), "a whole status"
+    assert_stopped(server)
+
+
+def test_operator_who_reads_no_devices(new_server: NewServer, clock: Clock) -> None:
+    """An operator who asks for more devices than the socket holds, and reads nothing, is given up
+    when a write has waited for two seconds."""
+    last = 0xFFFFFF, bytes(16), bytes(16), 2**32 - 1, 2**32 - 1
+    long = Record("", load.JOIN_EUI, "0" * 32, OWNER, dev_nonce=1, granted=last[0], heard=10**18)
+    more = [replace(long, dev_eui=load.dev_eui(at), current=last) for at in range(4096)]
+    server = new_server(4096, more)
+    server.run_on(PLACES, env=clock.how)
+    slow = operator(server, b"devices\n")
+    # after the first two the server has written a part
+    for _ in range(2):
+        clock.passes(2, server, [])
+    await_rest(server)
+    assert not all_of(slow).endswith(b"\n\n"), "a whole answer"
+    assert_stopped(server)
+
+
+def test_second_stop(new_server: NewServer, with_disk: Environment) -> None:
+    """A server that is ending and waits for its disk ends, also if it is stopped again."""
+    server = new_server(records=records(1, OWNER))
+    address = server.run_on(PLACES, env=with_disk(HELD_SYNCS=server.folder))
+    stops = []
+    with Application(address, OWNER) as application:
+        with held_syncs(server):
+            application.asks(f"mac {load.dev_eui(0)} 06")
+            await_status(server, made=1)
+            for _ in range(2):
+                stops.append(operator(server, b"stop\n"))
+                await_rest(server)
+        assert application.hears() == f"macqueued {load.dev_eui(0)} 06"
+    assert server.ended() == (0, "", "".join(f"{name} 0\n" for name in COUNTS))
+    assert all(map(all_of, stops)), "each is answered"
+
+
+def test_link_that_is_slowed(server: Program, clock: Clock) -> None:
+    """A link that sends more than it may is slowed once, however often the server looks again. It
+    is read on then, also if more copies have come meanwhile than the 400 that may come at once."""
+    assert server.stop()[0] == 0
+    address = server.run_on(1, env=clock.how)
+    with Gateway(address, EUI) as gateway:
+        # a link that begins may send no copy yet
+        gateway.say(heard(b"\xe0\x01"))
+        await_status(server, slowed=1)
+        before = switches(server)
+        await_that("its worker has looked again", lambda: switches(server) > before + 2)
+        assert server.status()["slowed"] == "1"
+        gateway.say(heard(b"\xe0\x02") * 700)
+        await_rest(server, [gateway])
+        clock.stands(False)
+        await_read(gateway)
+        assert server.status()["gateways"] == "1"
+    assert server.stop()[0] == 0
 
 
 @pytest.mark.timed
 def test_stop_beside_many_silent_operators(empty: Program) -> None:
     """`lnsd stop` beside 120 clients of the control socket that say nothing, which leave when the
-    server ends, takes three seconds at most."""
+    server ends, takes 15 seconds at most. With two seconds for each of eight at a time it takes 30.
+    """
     silent = [operator(empty) for _ in range(MANY)]
     begun = time.monotonic()
     assert_stopped(empty)
@@ -169,7 +235,13 @@ def test_stop_beside_many_silent_operators(empty: Program) -> None:
 
 
 def test_fifth_watcher(empty: Program, watch: NewWatcher) -> None:
-    """Four operators may watch, and a fifth is refused; other orders are taken."""
+    """Four operators may watch, and a fifth is refused; other orders are taken. Who hangs up
+    before the answer takes no place."""
+    empty.running().send_signal(signal.SIGSTOP)
+    for _ in range(WATCHERS):
+        operator(empty, b"watch\n").close()
+    empty.running().send_signal(signal.SIGCONT)
+    await_rest(empty)
     watchers = [watch(empty) for _ in range(WATCHERS)]
     assert empty.run("watch", empty.store) == failure("busy")
     assert empty.devices()[0] == DEVICES.splitlines()
@@ -187,31 +259,30 @@ def test_order_after_the_end(empty: Program, word: str) -> None:
 
 def switches(server: Program) -> int:
     """How often the threads of the server have gone to sleep."""
-    count, folder = 0, f"/proc/{server.running().pid}/task"
-    for thread in os.listdir(folder):
-        with open(f"{folder}/{thread}/status", encoding="ascii") as file:
-            words = dict(line.split(":", 1) for line in file)
-        count += int(words["voluntary_ctxt_switches"])
-    return count
+    return sum(int(count) for _, count in sleeps(server))
 
 
 @pytest.mark.parametrize("number", [signal.SIGINT, signal.SIGKILL], ids=["SIGINT", "SIGKILL"])
 def test_watchers_who_have_gone(empty: Program, watch: NewWatcher, number: int) -> None:
-    """The place of an operator who watched and has gone is free within two seconds, also if nothing
-    happens. Until then the server looks now and then, and not all the time."""
-    watchers = [watch(empty) for _ in range(WATCHERS)]
-    before = switches(empty)
-    time.sleep(FREE)
+    """The place of an operator who watched and has gone is soon free, also if nothing happens.
+    Until then the server looks now and then, and not all the time. Others still hear all."""
+    files, watchers = used(empty)[1], [watch(empty) for _ in range(WATCHERS)]
+    await_rest(empty)
+    begun, before = time.monotonic(), switches(empty)
+    time.sleep(2)
     looks = switches(empty) - before
-    assert looks <= 4 * WATCHERS * FREE, "how often it looks while nothing happens"
+    assert looks <= 4 * WATCHERS * (time.monotonic() - begun), "how often it looks"
     for watcher in watchers:
         watcher.leave(number)
-    time.sleep(FREE)
+    await_that("those who have gone are given up", lambda: used(empty)[1] == files, FREE)
     again = [watch(empty) for _ in range(WATCHERS)]
     assert empty.address
     with Gateway(empty.address, EUI):
         for watcher in again:
             assert watcher.line() == f"linked gateway {EUI}"
+        files = used(empty)[1]
+        again.pop(0).leave(number)
+        await_that("the first has gone", lambda: used(empty)[1] < files, FREE)
     for watcher in again:
         assert watcher.line() == f"ended gateway {EUI}"
     assert_stopped(empty)
@@ -240,18 +311,19 @@ def test_answer_that_is_cut(new_server: NewServer, word: str, answer: bytes) -> 
         other.join(PATIENCE)
 
 
-@pytest.mark.timed
-def test_strangers(server: Program) -> None:
-    """Who connects and says nothing has ten seconds. A gateway that waits after 96 of them is
-    served then."""
-    assert server.address
-    begun = time.monotonic()
-    silent = [Link(server.address) for _ in range(PLACES)]
-    await_status(server, links=PLACES)
-    gateway = Gateway(server.address, EUI, patience=PATIENCE)
-    status = await_status(server, gateways=1, silent=PLACES)
-    assert GREETING <= time.monotonic() - begun < GREETING + 10
-    assert status["links"] == "1"
+def test_strangers(new_server: NewServer, clock: Clock) -> None:
+    """Who connects and doesn't greet has ten seconds, also who begins to. A gateway that waits
+    after 96 of them is served then."""
+    server = new_server()
+    address = server.run_on(PLACES, env=clock.how)
+    silent = [Link(address) for _ in range(PLACES)]
+    await_that("each is read", lambda: sum(map(bool, clock.words[2:1024])) == PLACES)
+    gateway = Gateway(address, EUI, patience=PATIENCE)
+    clock.moves(GREETING - 0.01)
+    await_status(server, links=PLACES, gateways=0, silent=0)
+    silent[0].say(wire.gateway_greeting(EUI)[:5])
+    clock.passes(0.01, server, silent[:1])
+    await_status(server, links=1, gateways=1, silent=PLACES)
     for link in silent:
         assert link.rest() == []
         link.close()

@@ -1,6 +1,5 @@
 """Streams that aren't as those of links should be, beside a healthy gateway and application."""
 
-import time
 from collections.abc import Iterator
 
 import pytest
@@ -9,8 +8,9 @@ from bozintar.links import Application, Gateway, Link
 from bozintar.server import Program
 from bozintar.wire import Copy
 
+from ..clocks import await_rest
 from ..conftest import NewServer
-from ..pairs import EUI, HEARD, OWNER, PROVISION, Pair, await_links, finish, formatted, greeted
+from ..pairs import EUI, HEARD, OWNER, PROVISION, Pair, finish, formatted, greeted
 
 # a healthy gateway beside these is the 61st at most, of the 64 that there may be
 MOST = 60
@@ -209,7 +209,8 @@ def test_before_a_fault(server: Program) -> None:
     faulty.say(greets + wire.copy_of(good, heard) + TOO_LONG + wire.copy_of(late, heard))
     pair.hears(f"up {pair.device.dev_eui} 1 1 7 04D2 1 {heard.heard()}")
     faulty.say(wire.copy_of(late, heard))
-    time.sleep(0.4)
+    # if that opened a window, it would be closed before the next one
+    await_rest(server, [faulty])
     pair.sends()
     finish(server, [faulty, *pair.links()], faulted=1)
 
@@ -221,13 +222,13 @@ def test_second_link_of_a_name(server: Program) -> None:
     pair, second, third = Pair(address), Link(address), Link(address)
     other = Gateway(address, f"{OWNER:016X}")
     pair.greet()
-    await_links(pair.links())
+    await_rest(server, pair.links())
     second.say(wire.application_greeting(OWNER) + wire.request(PROVISION))
     third.say(wire.gateway_greeting(EUI))
-    await_links([second])
+    await_rest(server, [second, third])
     pair.play()
     third.say(wire.copy_of(pair.device.uplink(7, b"\x04\xd2"), HEARD))
-    time.sleep(0.4)
+    await_rest(server, [third])
     pair.sends()
     finish(server, [second, third, other, *pair.links()], faulted=2)
 
@@ -242,12 +243,12 @@ def test_silent_links(server: Program) -> None:
     resets.append(Link(address, wire.gateway_greeting(own_eui(3)) + b"\x00\x27\x01"))
     pair = greeted(address)
     # what the server hasn't read is lost by a reset
-    await_links(resets)
+    await_rest(server, resets)
     for link in resets:
         link.reset()
     pair.play()
     for link in pair.links():
         link.end()
-    time.sleep(1)
+    await_rest(server, pair.links())
     assert server.running().poll() is None, "the server doesn't wait for the silent"
     finish(server, [silent, half, greets, *pair.links()], faulted=2)

@@ -12,10 +12,10 @@ from bozintar.frames import LATER_CHANNELS
 from bozintar.links import Application, Gateway, Link
 from bozintar.server import Program
 from bozintar.wire import Copy
-from lnsd.anew import await_status
 
+from ..clocks import Clock, await_rest
 from ..conftest import Environment, NewServer
-from ..pairs import APP_KEY, DEV_EUI, EUI, HEARD, JOIN_EUI, OWNER, Pair, formatted, records
+from ..pairs import APP_KEY, DEV_EUI, EUI, HEARD, JOIN_EUI, OWNER, WINDOW, Pair, formatted, records
 from .conftest import NewWatcher
 from .operating import NOTHING_MORE, PLACES, Watcher, assert_stopped, heard
 
@@ -191,14 +191,16 @@ def test_spent_join_nonces(new_server: NewServer, watch: NewWatcher) -> None:
     assert watcher.rest()[1:] == (0, "")
 
 
-def test_33_copies(server: Program, watch: NewWatcher) -> None:
+def test_33_copies(server: Program, watch: NewWatcher, clock: Clock) -> None:
     """The 33rd copy of a frame is refused at once, and reported."""
-    address = server.run_on(PLACES)
+    address = server.run_on(PLACES, env=clock.how)
     watcher = watch(server)
     gateways = [Gateway(address, f"{0xB1 + number:016X}") for number in range(33)]
-    await_status(server, gateways=33)
+    # a link that begins may send no copy yet
+    clock.passes(1, server, gateways)
     for gateway in gateways:
         gateway.say(heard(b"\xe0\x03", gateway.eui))
+    clock.passes(WINDOW, server, gateways)
     came = [" ".join(watcher.await_line("refused")[-1].split(" ")[1:4]) for _ in range(2)]
     assert came == ["22 CopiesFull other", "2 NotServed other"]
     for gateway in gateways:
@@ -223,9 +225,13 @@ def test_links_and_a_join(server: Program, watch: NewWatcher, with_disk: Environ
 
 @pytest.mark.parametrize("name", NAMES)
 def test_name_that_is_taken_over(watched: Watched, name: str) -> None:
-    """A name that is taken over is reported, and a fault of its new link."""
+    """A name that is taken over is reported, and a fault of its new link. The older one's isn't a
+    fault, though it ends in the middle of a message."""
     address, watcher = watched.server.address, watched.watcher
     assert address
+    older = watched.pair.links()[1 - NAMES.index(name)]
+    older.say(b"\x00")
+    await_rest(watched.server, [older])
     link: Link = Gateway(address, EUI) if name == NAMES[0] else Application(address, OWNER)
     for word in ("taken_over", "linked"):
         watcher.await_line(f"{word} {name}")

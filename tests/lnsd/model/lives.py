@@ -1,4 +1,5 @@
-"""A random load is played on the server beside the model, over several lives of the server."""
+"""A random load is played on the server beside the model, over several lives of the server, whose
+clock stands still but where a round moves it."""
 
 import select
 import time
@@ -12,19 +13,20 @@ from bozintar.links import Application, Ended, Gateway, Link, Silent
 from bozintar.processes import Failed
 from bozintar.server import Program
 from bozintar.wire import line_of
-from lnsd.unread import STEP, await_read, unread
+from lnsd.anew import await_status
 
+from ..clocks import Clock
 from . import plain
 from .crowd import Asked, Crowd, Sent
 from .steps import EUIS, OWNERS, Change, Round
 
-SLOTS, WINDOW = 12, 0.2
+# how long a window lasts, after how long a link may send the most copies, and how much later the
+# last window of a round is opened, in seconds
+SLOTS, WINDOW, RESTED, LATER = 12, 0.2, 1, 0.01
 # places for links that end while others of their names come
 SPARE = 8
-# how long a round's last frame may take beyond its window; and how long what was due before it may
-# take after that, in seconds
-PATIENCE, AFTER_BELL = 60, 5
-QUICK = 0.02
+# how long what is due may take, and what is read in one step, in seconds
+PATIENCE, QUICK = 60, 0.02
 
 
 class Differs(Exception):
@@ -49,22 +51,24 @@ class Life:
     def __init__(self, play: "Play"):
         self.play, self.model, self.crowd = play, play.model, play.crowd
         program, links = play.program, len(EUIS) + len(OWNERS)
-        come_and_go = play.comes_and_goes
-        self.address = program.run_on(links + SPARE) if come_and_go else program.serve(links)
+        play.clock.begins()
+        if play.comes_and_goes:
+            self.address = program.run_on(links + SPARE, env=play.clock.how)
+        else:
+            self.address = program.serve(links, env=play.clock.how)
         self.gateways = {eui: Gateway(self.address, eui) for eui in EUIS}
         self.applications = {number: Application(self.address, number) for number in OWNERS}
-        # the server takes the greetings
-        for link in self.links():
-            await_read(link)
-        time.sleep(0.1)
+        self.passes(RESTED)
         # by link and device, what has to come; and the gateways' frames by their bytes
         self.due: dict[Any, deque[str]] = defaultdict(deque)
-        # since when gateways have sent what the server may not have read
-        self.unread: dict[Gateway, float] = {}
 
     def links(self) -> list[Link]:
         """All links."""
         return [*self.gateways.values(), *self.applications.values()]
+
+    def passes(self, seconds: float) -> None:
+        """Moves the clock on, once the server has done all that was said before."""
+        self.play.clock.passes(seconds, self.play.program, self.links())
 
     def expect(self, left: plain.Effects) -> None:
         """What the model lets out, in order."""
@@ -93,6 +97,7 @@ class Life:
             if older.more(PATIENCE):
                 raise Differs(f"something came on link {change.link} that was taken over")
             older.close()
+        self.passes(RESTED)
 
     def leave(self, number: int) -> None:
         """An application ends its link, and is away once the server has ended it, too."""
@@ -124,16 +129,11 @@ class Life:
             self.settle(left)
 
     def send(self, sent: Sent) -> plain.Effects:
-        """A frame by some gateways; what the model makes of it, which is then due. A slow server
-        reads what was sent before: else copies come too late for each other."""
-        while self.unread:
-            self.look()
-            time.sleep(STEP)
+        """A frame by some gateways; what the model makes of it, which is then due."""
         for copy in sent.copies:
             heard = f"{copy.heard()} {copy.stamp}"
             self.play.note(f"gateway {heard} hears {plain.text_of(sent.frame)}")
             self.gateways[copy.gateway].hands_in(sent.frame, copy)
-            self.unread.setdefault(self.gateways[copy.gateway], time.monotonic())
         copies = plain.taken(sent.copies)
         try:
             left = self.model.heard(sent.frame, copies) if copies else []
@@ -158,7 +158,6 @@ class Life:
 
     def read(self, wait: float) -> None:
         """Takes and compares what has come."""
-        self.look()
         by_socket = {link.socket: link for link in self.links() if not link.is_over}
         for ready in select.select(list(by_socket), [], [], wait)[0] if by_socket else ():
             link = by_socket[ready]
@@ -169,13 +168,6 @@ class Life:
                     self.came("gw", link.eui, content.hex().upper())
                 elif isinstance(link, Application):
                     self.came("app", link.number, line_of(content))
-
-    def look(self) -> None:
-        """Notes how late the server reads what gateways have sent."""
-        for gateway, since in list(self.unread.items()):
-            self.play.late = max(self.play.late, time.monotonic() - since)
-            if not unread(gateway):
-                del self.unread[gateway]
 
     def is_due(self, left: plain.Effects) -> bool:
         """Whether any of this is still to come."""
@@ -190,12 +182,13 @@ class Life:
                 raise Differs(f"nothing more came, and the model has {left}")
 
     def settle_all(self, bell: plain.Effects) -> None:
-        """Waits until a round's windows are closed, and all that is due has come: what the bell
-        led to, whose window is the last to be closed, and soon after it all the rest."""
-        least = time.monotonic() + WINDOW + 0.03
+        """Waits until all that is due has come: first what the bell led to, whose window is the
+        last to be closed."""
+        if not bell:
+            raise Differs("the bell led to nothing")
         self.settle(bell)
-        last = time.monotonic() + AFTER_BELL
-        while any(self.due.values()) or time.monotonic() < least:
+        last = time.monotonic() + PATIENCE
+        while any(self.due.values()):
             self.read(QUICK)
             if time.monotonic() > last:
                 due = {key: list(of)[:3] for key, of in self.due.items() if of}
@@ -212,10 +205,11 @@ class Life:
                 self.ask(act)
             else:
                 self.send(act)
-        time.sleep(QUICK)
+        self.passes(LATER)
         bell = self.send(self.crowd.ring())
+        self.passes(WINDOW)
         if this.away is not None:
-            time.sleep(WINDOW + 0.1)
+            await_status(self.play.program, windows=0, waiting=0)
             self.come_back()
         self.settle_all(bell)
 
@@ -248,13 +242,11 @@ class Play:
     """A load that is played from an empty store on: the model, what was done, and the number of
     comparisons."""
 
-    def __init__(self, program: Program, comes_and_goes: bool):
-        self.program, self.comes_and_goes = program, comes_and_goes
+    def __init__(self, program: Program, clock: Clock, comes_and_goes: bool):
+        self.program, self.clock, self.comes_and_goes = program, clock, comes_and_goes
         self.model, self.crowd = plain.Network(SLOTS), Crowd()
         self.script: list[str] = []
         self.compared = 0
-        # how late the server has read what was sent, at most, in seconds
-        self.late = 0.0
 
     def note(self, line: str) -> None:
         """Notes what is done."""
@@ -278,10 +270,12 @@ class Play:
             life.close()
 
 
-def difference(program: str, load: Sequence[Round], comes_and_goes: bool) -> tuple[Play, str]:
+def difference(
+    program: str, clock: Clock, load: Sequence[Round], comes_and_goes: bool
+) -> tuple[Play, str]:
     """Plays a load; what is wrong, with all that was done, or nothing."""
     with Program(program) as made:
-        play = Play(made, comes_and_goes)
+        play = Play(made, clock, comes_and_goes)
         try:
             play.go(load)
         except WRONG as why:

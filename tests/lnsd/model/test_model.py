@@ -9,9 +9,7 @@ server may be ended and started again; then `lnsd list` has to be that of the mo
 
 hypothesis makes the loads, `--examples N` of them in each trial. It shrinks a load of which
 something else comes, for five minutes at most, and what is left is printed: first the difference,
-then each thing that was done. If the machine paused meanwhile, or the server read late what was
-sent, copies may have come too late for each other. That says nothing, and the same load is played
-again, three times at most."""
+then each thing that was done."""
 
 from collections.abc import Callable, Sequence
 
@@ -19,20 +17,16 @@ import hypothesis
 import pytest
 from hypothesis import HealthCheck, Phase, Verbosity
 
-from ...pauses import Pauses
-from . import lives, script
+from ..clocks import Clock
+from . import lives
 from .steps import Round, loads
 
-# how often a load is played that failed while the machine paused, and if it is shrunk
-TIMES, TIMES_SHRUNK = 4, 2
-# how late a server that isn't kept from running reads what was sent, at most, in seconds
-LATE = 0.1
 # the least rounds of a load, until one fails and is shrunk
 LEAST = 5
 
 
 def find(
-    difference: Callable[[Sequence[Round], int], str], given: pytest.Config, seed: int, mode: str
+    difference: Callable[[Sequence[Round]], str], given: pytest.Config, seed: int, mode: str
 ) -> None:
     """Looks for a load of which something else comes, and fails with the simplest one found."""
     found: list[str] = []
@@ -51,7 +45,7 @@ def find(
         # hypothesis begins with many small loads, which would take their time
         hypothesis.assume(found or len(load) >= LEAST)
         try:
-            wrong = difference(load, TIMES_SHRUNK if found else TIMES)
+            wrong = difference(load)
         except pytest.exit.Exception as ended:
             # hypothesis would take this for a failure of the load, and shrink it
             raise KeyboardInterrupt from ended
@@ -73,34 +67,20 @@ def find(
 
 
 @pytest.mark.slow
-@pytest.mark.repeats_itself
 @pytest.mark.parametrize("mode", ("serve", "run"))
 def test_what_comes_is_what_the_model_has(
-    pytestconfig: pytest.Config, program: str, mode: str, seed: int
+    pytestconfig: pytest.Config, program: str, clock: Clock, mode: str, seed: int
 ) -> None:
     """Lines, downlinks and lists are those of the model. In the mode `run` links come and go:
     between rounds a link is closed, reset, or taken over by the next one of its name; and in a
     round an application is away, whose lines wait for it."""
     sums = {"loads": 0, "rounds": 0, "comparisons": 0}
 
-    def difference(load: Sequence[Round], times: int) -> str:
-        for _ in range(times):
-            with Pauses() as pauses:
-                play, wrong = lives.difference(program, load, mode == "run")
-            if not wrong or not (pauses.is_spoilt() or play.late > LATE):
-                break
+    def difference(load: Sequence[Round]) -> str:
+        play, wrong = lives.difference(program, clock, load, mode == "run")
         for what, count in zip(sums, (1, len(load), play.compared)):
             sums[what] += count
         return wrong
 
     find(difference, pytestconfig, seed, mode)
     print(sums)
-
-
-def test_what_the_simulator_emits_is_what_the_model_has(
-    pytestconfig: pytest.Config, simulator: str, seed: int
-) -> None:
-    """The same loads as scripts, with a checkpoint after each round: what is emitted, in order over
-    all devices."""
-    difference = lambda load, _: script.difference(simulator, load, lives.SLOTS)
-    find(difference, pytestconfig, seed, "serve")

@@ -65,23 +65,23 @@ class Copy:
         return head + "".join(f"above {name} {due[name]} {self.heard[name]}\n" for name in due)
 
 
-def made_copy(path: str, first: int = 0) -> Copy:
-    """A copy that is written by docs/FORMATS.md: three devices with other JoinNonces and HEARDs,
-    of this number and the next ones."""
-    made = [load.record(number, 1) for number in range(first, first + 3)]
+def made_copy(path: str, first: int = 0, count: int = 3) -> Copy:
+    """A copy that is written by docs/FORMATS.md: devices with other JoinNonces and HEARDs, of this
+    number and the next ones."""
+    made = [load.record(number, 1) for number in range(first, first + count)]
     for place, record in enumerate(made):
         record.granted, record.heard = 1 + 5 * place, 40 + place
     with Program(path) as program:
-        assert program.format(slots=4) == (0, "", "")
+        assert program.format(slots=count) == (0, "", "")
         store.put(program.store, made)
         content = Path(program.store).read_bytes()
     return Copy(content, {record.dev_eui: (record.granted, record.heard) for record in made})
 
 
 class Case:
-    """A copy in a folder, and another folder where it is to be restored. Texts of the records that
-    are there before may be given: the one beside the copy, and the one beside the new store. Cases
-    of one name and several rooms share both folders."""
+    """A copy in a folder, and another folder where it is to be restored, or these folders. Texts of
+    the records that are there before may be given: the one beside the copy, and the one beside the
+    new store. Cases of one name and several rooms share both folders."""
 
     def __init__(
         self,
@@ -90,9 +90,10 @@ class Case:
         records: Sequence[str | None] = (None, None),
         name: str = "case",
         room: object = "",
+        folders: Sequence[str] = (),
     ):
         self.program, self.copy = program, copy
-        folders = [os.path.join(program.folder, f"{name}-{place}") for place in ("old", "new")]
+        folders = folders or [f"{program.folder}/{name}-{place}" for place in ("old", "new")]
         self.old, self.new = f"{folders[0]}/copy{room}", f"{folders[1]}/store{room}"
         self.paths = [f"{folder}/{RECORD}" for folder in folders]
         for folder, path, text in zip(folders, self.paths, records):
@@ -108,7 +109,9 @@ class Case:
     def records(self) -> list[str | None]:
         """The texts of both records; None for one that isn't there."""
         paths = map(Path, self.paths)
-        return [path.read_bytes().decode() if path.exists() else None for path in paths]
+        return [
+            path.read_bytes().decode(errors="replace") if path.exists() else None for path in paths
+        ]
 
     def known(self) -> Nonces:
         """The JoinNonces of both records."""
@@ -148,6 +151,8 @@ class Case:
         assert self.restore(*options) == (0, self.copy.printed(known), "")
         assert self.listed() == self.whole(due), "the new store's list"
         assert self.records() == [self.recorded(text, due) for text in before], "the records"
+        modes = {os.stat(path).st_mode & 0o777 for path in self.paths}
+        assert modes == {0o600}, "who may read the records"
         assert self.is_as_it_was(), "the copy"
 
     def is_refused(self, said: str, *options: str, **how: Any) -> None:

@@ -130,19 +130,32 @@ def test_request_for_memory_that_is_refused(start: Start, program: str, folder: 
 FILE = "file\nlnsd: another error of the system"
 
 
+def count_of_calls(start: Start) -> int:
+    """How many reads, writes, syncs and renamings a restore makes: it is killed in each of these,
+    and in no later one."""
+    made, not_made = 0, CALLS
+    while not_made - made > 1:
+        number = (made + not_made) // 2
+        cut = start(preloads.CALLS, f"counting {number}", KILLING_CALL=number, ALL_CALLS=1)
+        if cut.status == 0:
+            not_made = number
+        else:
+            made = number
+    return made
+
+
 def test_call_that_fails(start: Start) -> None:
     """Each read, write, sync and renaming fails in turn. The message names a record, the file, or
     has the number of a failed call."""
-    for number in range(1, CALLS):
+    count = count_of_calls(start)
+    for number in range(1, count + 1):
         cut = start(preloads.CALLS, f"failing {number}", FAILING_CALL=number, ALL_CALLS=1)
-        if cut.status == 0:
-            break
         records = [f"record {path}" for path in cut.case.paths]
         may = [(1, "", f"lnsd: {what}\n") for what in (FILE, "refused 40", *records)]
         assert (cut.status, cut.out, cut.said) in may, f"call {number}"
         cut.next(cut.look())
-    print(f"{number - 1} calls failed")
-    assert 1 < number < CALLS - 1
+    print(f"{count} calls failed")
+    assert 1 < count < CALLS - 2
 
 
 def test_call_in_which_it_is_killed(start: Start) -> None:
@@ -161,10 +174,10 @@ def test_call_in_which_it_is_killed(start: Start) -> None:
 
 
 def test_records_are_on_the_disk_before_a_store_is(start: Start, folder: Path) -> None:
-    """The new file, its folder, and both records with their folders are synced before anything is
-    written to the new store; and that ends with a sync."""
+    """The new file and its folder are synced, and both records before they are renamed and their
+    folders after that, before anything is written to the new store; and that ends with a sync."""
     log = folder / "calls"
     start(preloads.CALLS, "logged", CALL_LOG=log)
     kinds = kinds_of(log)
-    assert kinds[:7] == "wfdfdfd", "the calls before the new store"
-    assert set(kinds[7:]) == {"w", "s"} and kinds[-1] == "s", f"its calls are {kinds}"
+    assert kinds[:9] == "wfdfrdfrd", "the calls before the new store"
+    assert set(kinds[9:]) == {"w", "s"} and kinds[-1] == "s", f"its calls are {kinds}"
