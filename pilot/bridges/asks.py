@@ -17,6 +17,8 @@ LINE = re.compile(r"[0-9A-Za-z -]{1,640}")
 BAD_MESSAGE, UNANSWERED = "refused 51", "unanswered"
 # a device can't be provisioned, since no claim says in which of several stores
 UNCLAIMED = "unclaimed"
+# nor can one if the network doesn't know devices that it had
+HELD = "held"
 # asks the network for a line, whose answer begins so; None if none came
 Ask = Callable[[str, str], Awaitable[str | None]]
 
@@ -43,7 +45,8 @@ def is_there(answer: str | None) -> bool:
 class Asks:
     """The socket. Each line that comes is asked for, one at a time, and answered by a line: the
     network's, or `unanswered` if the link ended before it. (It may have been done then.) With many
-    stores a device that is claimed for none is answered `unclaimed`."""
+    stores a device that is claimed for none is answered `unclaimed`. While the network doesn't know
+    devices that it had, each device is answered `held`."""
 
     def __init__(self, path: str, ask: Ask):
         self.path, self.ask = path, ask

@@ -5,7 +5,7 @@ import argparse
 import asyncio
 import signal
 import time
-from collections.abc import Mapping
+from collections.abc import Callable, Mapping
 from dataclasses import dataclass, field
 from typing import Any, Generic, TypeVar
 
@@ -15,16 +15,17 @@ from bozintar.counts import COUNTS_HELP, Counts, Metric
 from bozintar.logs import Seldom, log, warn
 from bozintar.running import on_signals
 
-from . import hub, named
+from . import hub, late, named
 from .captures import Capture
 from .hub import Hub
 from .named import Named
 from .ways import ToMany, ToOne, Way
 
 COUNTED = {
-    "copies": "frames that were handed to the network",
+    "copies": "frames that a link took",
     "unlinked": "frames that were heard while no link took them",
-    "caught_up": "of these, frames that were handed in soon after that",
+    "caught_up": "of these, frames that a link took soon after that",
+    **late.COUNTED,
     "too_many": "frames beyond 200 a second of a gateway, which weren't read",
     "without_crc": "frames whose CRC was wrong, or that had none",
     "other_modulations": "frames that aren't LoRa of 125 kHz",
@@ -110,12 +111,13 @@ class Gateways(Generic[G]):
     kind: type[G]
     # of the metrics of each gateway, since two bridges may have the same list
     bridge: str
+    clock: Callable[[], float] = staticmethod(time.monotonic)
 
     def __init__(self, given: Any, counts: Counts):
         self.given, self.counts, self.seldom = given, counts, Seldom()
-        self.clock = asyncio.get_running_loop().time
         self.gateways: dict[str, G] = {}
         self.logged: set[str] = set()
+        self.late = late.Late(counts)
         self.hub = Hub(given, counts, self.bridge, self.take_order) if given.stores else None
         self.name(given.named)
         on_signals((signal.SIGHUP,), self.read_again)
@@ -140,7 +142,7 @@ class Gateways(Generic[G]):
         if self.hub:
             return ToMany(eui, self.hub)
         take = lambda content: self.take_order(eui, content)
-        return ToOne(eui, self.given.network, self.counts, take)
+        return ToOne(eui, self.given.network, self.counts, self.late, take)
 
     def read_again(self) -> None:
         """Reads the list of gateways again. One with a fault is left as it was."""
@@ -174,7 +176,7 @@ class Gateways(Generic[G]):
     def may_read(self, gateway: G, count: int = 1) -> int:
         """How many of this many frames that a gateway heard are read. The others are counted before
         anything of them is looked at, since that takes time, too."""
-        most = sum(gateway.bucket.lets(gateway.last) for _ in range(min(count, BURST)))
+        most = sum(gateway.bucket.lets() for _ in range(min(count, BURST)))
         if most < count:
             self.counts.add("too_many", count - most)
             text = f"sends more than {RATE} frames a second; the rest is dropped"

@@ -20,6 +20,7 @@ from bozintar.counts import Counts, Metric
 from bozintar.lasting import Link
 from bozintar.logs import Seldom, warn
 
+from .late import Late
 from .routes import STORES_HELP, Routes, Store
 
 COUNTED = {
@@ -64,6 +65,7 @@ class Spoke:
 class Spokes:
     """All links to a store by their gateways, the longest unused first."""
 
+    late: Late
     links: OrderedDict[str, Spoke] = field(default_factory=OrderedDict)
     copies: int = 0
     opened: int = 0
@@ -74,14 +76,16 @@ class Hub:
     """All links of a bridge's gateways to all stores. What a store sends to a gateway is given to
     `order`, with the gateway's EUI."""
 
+    clock: Callable[[], float] = staticmethod(time.monotonic)
+
     def __init__(self, given: Any, counts: Counts, bridge: str, order: Order):
         self.routes: Routes = given.routes
         self.counts, self.order = counts, order
         self.most, self.bridge = given.names, bridge
         # a link that is unused for so long is closed, so that other bridges have its name
         self.silent: float = given.silent
-        self.seldom, self.clock = Seldom(), time.monotonic
-        self.stores: dict[str, Spokes] = {name: Spokes() for name in self.routes.stores}
+        self.seldom = Seldom()
+        self.stores: dict[str, Spokes] = {name: Spokes(Late(counts)) for name in self.routes.stores}
         self.ending: set[asyncio.Task] = set()
         let_open_files()
 
@@ -124,7 +128,8 @@ class Hub:
             self.counts.add("crowded")
             self.seldom.warn(("crowded", name), f"store {name} has no free name for gateway {eui}")
             return None
-        link = Link(f"gateway {eui} to {name}", store.address, wire.gateway_greeting(eui))
+        text, greeting = f"gateway {eui} to {name}", wire.gateway_greeting(eui)
+        link = Link(text, store.address, greeting, judge=spokes.late.lets)
         link.is_logged = False
         spoke = spokes.links[eui] = Spoke(link, self.clock())
         spoke.work = asyncio.ensure_future(self.listen(store, eui, spoke))
@@ -233,7 +238,7 @@ class Hub:
             for spoke in self.stores.pop(name).links.values():
                 self.break_off(spoke)
         for name, store in self.routes.stores.items():
-            spokes = self.stores.setdefault(name, Spokes())
+            spokes = self.stores.setdefault(name, Spokes(Late(self.counts)))
             for eui, spoke in list(spokes.links.items()):
                 if spoke.link.address != store.address:
                     del spokes.links[eui]

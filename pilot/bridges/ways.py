@@ -11,6 +11,7 @@ from bozintar.lasting import Link
 from bozintar.words import Address
 
 from .hub import Hub
+from .late import Late
 
 Take = Callable[[bytes], None]
 
@@ -43,8 +44,8 @@ class ToOne:
     """A link to one server, which is opened again whenever it has ended. Its contents are given to
     `take`."""
 
-    def __init__(self, eui: str, address: Address, counts: Counts, take: Take):
-        self.link = Link(f"gateway {eui}", address, wire.gateway_greeting(eui))
+    def __init__(self, eui: str, address: Address, counts: Counts, late: Late, take: Take):
+        self.link = Link(f"gateway {eui}", address, wire.gateway_greeting(eui), judge=late.lets)
         self.counts, self.take = counts, take
         self.work: asyncio.Task | None = None
 

@@ -7,14 +7,31 @@ from dataclasses import dataclass
 
 from .network import DAY, GATEWAY_DAYS, Network
 from .refusals import UNKNOWN_DEV_EUI, refusal
+from .repeats import JOINED, READ
 from .text import ago, plural
 
-# the levels, the gravest first: a monitor is alarmed by the first one
-GRAVE, WARNING, NOTE = 0, 1, 2
+# the levels, the gravest first: a monitor is alarmed by the first two
+BROKEN, GRAVE, WARNING, NOTE = 0, 1, 2, 3
 # a sync above this makes downlinks miss their windows (docs/OPERATING.md, "The disk"), in ms; and
 # for how many minutes it needs attention
 SLOW_SYNC, SLOW_MINUTES = 200, 60
 NEARLY_FULL = 0.9
+# what came twice: its level, what it is, what it means, and what to do
+REPEATS = {
+    JOINED: (
+        BROKEN,
+        "A JoinNonce was granted twice",
+        "the server's store is another one, or an older one. Devices may be locked out",
+        "Stop lnsd. Look whether the store's disk is mounted, and whether it is an old copy. Serve "
+        'the right store, or restore a copy ("A lost disk" in OPERATING). Then confirm this.',
+    ),
+    READ: (
+        WARNING,
+        "Two readings of one counter differ",
+        "the store is an older one, or a stranger publishes on the broker, which doesn't say who",
+        "Look whether a JoinNonce was granted twice, too, and who may publish. Then confirm this.",
+    ),
+}
 
 
 @dataclass(frozen=True)
@@ -26,14 +43,27 @@ class Problem:
     why: str
     remedy: str
     page: str
+    # of one that stays until it is confirmed: its kind, and how often it happened
+    kind: str = ""
+    seen: int = 0
 
 
 def problems(network: Network) -> list[Problem]:
     """All of them, the gravest first."""
     now = time.time()
-    found = [*of_programs(network), *of_gateways(network, now), *of_disk(network)]
-    found += [*of_devices(network, now), *of_joins(network, now)]
+    found = [*of_repeats(network, now), *of_programs(network), *of_gateways(network, now)]
+    found += [*of_devices(network, now), *of_joins(network, now), *of_disk(network)]
     return sorted(found, key=lambda problem: problem.level)
+
+
+def of_repeats(network: Network, now: float) -> Iterator[Problem]:
+    """What came twice, as long as nobody has confirmed it."""
+    for kind, (level, what, meaning, remedy) in REPEATS.items():
+        if found := network.repeats.open(kind):
+            seen, last = sum(of.count for of in found), found[0]
+            why = f"{plural(len(found), 'device')}, {plural(seen, 'time')} in all, last "
+            why += f"{network.name(last.device)} {ago(last.last, now)}: {meaning}"
+            yield Problem(level, what, why, remedy, f"/devices/{last.device}", kind, seen)
 
 
 def of_programs(network: Network) -> Iterator[Problem]:
@@ -76,7 +106,7 @@ def of_disk(network: Network) -> Iterator[Problem]:
         if server.slots and counts[name] > NEARLY_FULL * server.slots:
             why = f"{counts[name]} of {server.slots} slots are taken"
             what = f"The store {name} is nearly full" if name else "The store is nearly full"
-            yield Problem(NOTE, what, why, "More devices need another server.", "/server")
+            yield Problem(NOTE, what, why, "lnsd grow makes a store with more slots.", "/server")
 
 
 def of_devices(network: Network, now: float) -> Iterator[Problem]:
@@ -92,6 +122,8 @@ def of_devices(network: Network, now: float) -> Iterator[Problem]:
         what = f"{plural(lost, 'device')} without a session"
         why = "After a restore each device has to join again"
         remedy = "Restart those by hand that don't join by themselves."
+        if network.repeats.open(JOINED):
+            remedy = "Restart none before the right store is served."
         yield Problem(WARNING, what, why, remedy, "/devices?show=not")
     if low := sum(device.has_low_battery for device in devices):
         what = f"{plural(low, 'device')} with a low battery"

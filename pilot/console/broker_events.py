@@ -4,6 +4,7 @@ who may publish there may have sent them."""
 import re
 import time
 from collections.abc import Callable
+from hashlib import blake2b
 
 from adapting.rule import MOST_POWER, MOST_RATE, Setting
 from bozintar import fields
@@ -12,6 +13,7 @@ from bozintar.fields import Wrong
 from . import history, mac_commands
 from .devices import Adaption, Device, Report, Session, Uplink
 from .network import Network
+from .repeats import READ
 
 TOPICS = ["application/+/device/+/event/+"]
 TOPIC = re.compile(r"application/(1[0-5]|\d)/device/([0-9a-f]{16})/event/([a-z]{2,10})")
@@ -56,11 +58,17 @@ def take_up(network: Network, device: Device, said: dict) -> None:
     session = fields.whole(said, "joinNonce", 0, MOST_NONCE)
     counter = fields.whole(said, "fCnt", 0, MOST_COUNTER)
     rate, port = fields.whole(said, "dr", 0, 5), fields.whole(said, "fPort", 0, 255)
-    copies, size = fields.whole(said, "copies", 0, 64), len(fields.payload(said, "data", 255))
+    copies, data = fields.whole(said, "copies", 0, 64), fields.payload(said, "data", 255)
     hz = fields.whole(fields.inner(said, "txInfo"), "frequency", 0, 10**10)
     uplink = uplink_of(said, rate)
     known = device.sessions.setdefault(session, Session(counter, counter - 1))
+    which = device.eui, session, counter
+    # eight bits of a hash, so that readings can be compared and no payload is kept
+    key = " ".join(map(str, which)).encode()
+    check = blake2b(bytes([port]) + data, digest_size=1, key=key).digest()[0]
     if counter <= known.last:
+        if said.get("recovered") is not True and network.repeats.differs(*which, check):
+            note_other(network, *which)
         return  # the broker delivered it twice
     minute = network.minute()
     minute.uplinks += 1
@@ -71,10 +79,18 @@ def take_up(network: Network, device: Device, said: dict) -> None:
     device.add(uplink)
     device.update()
     network.gateway(uplink.gateway).add_best(uplink, device.store)
-    how = (rate, uplink.snr, uplink.rssi, uplink.gateway, hz, copies, size)
-    network.kept.add(history.UPLINK, device.eui, session, counter, uplink.came, port, *how)
+    how = (rate, uplink.snr, uplink.rssi, uplink.gateway, hz, copies, len(data), check)
+    network.kept.add(history.UPLINK, *which, uplink.came, port, *how)
     counts = (known.first, known.last, known.count)
     network.kept.add(history.SESSION, device.eui, session, *counts, uplink.came)
+
+
+def note_other(network: Network, eui: str, session: int, counter: int) -> None:
+    """A reading has other data than the one before. Any client of the broker can cause many."""
+    count = network.repeats.add(READ, eui, time.time())
+    if count == 1 or count % 10 == 0:
+        text = f"JoinNonce {session}, counter {counter}: two readings differ (so far {count} times)"
+        network.note("repeat", eui, text)
 
 
 def uplink_of(said: dict, rate: int) -> Uplink:

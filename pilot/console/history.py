@@ -13,7 +13,7 @@ from bozintar.logs import log
 TABLES = """
 CREATE TABLE IF NOT EXISTS uplinks (device TEXT, session INTEGER, counter INTEGER, came REAL,
     port INTEGER, rate INTEGER, snr REAL, rssi INTEGER, gateway TEXT, hz INTEGER, copies INTEGER,
-    size INTEGER, PRIMARY KEY (device, session, counter)) WITHOUT ROWID;
+    size INTEGER, hash INTEGER, PRIMARY KEY (device, session, counter)) WITHOUT ROWID;
 CREATE INDEX IF NOT EXISTS uplinks_came ON uplinks (came);
 CREATE TABLE IF NOT EXISTS sessions (device TEXT, session INTEGER, first INTEGER, last INTEGER,
     count INTEGER, came REAL, PRIMARY KEY (device, session)) WITHOUT ROWID;
@@ -29,8 +29,14 @@ CREATE TABLE IF NOT EXISTS gateway_hours (gateway TEXT, hour INTEGER, best INTEG
 CREATE TABLE IF NOT EXISTS adaptions (device TEXT PRIMARY KEY, came REAL, rate INTEGER,
     power INTEGER, is_sure INTEGER, asked TEXT, tries INTEGER, why TEXT, until INTEGER);
 CREATE TABLE IF NOT EXISTS names (eui TEXT PRIMARY KEY, name TEXT);
+CREATE TABLE IF NOT EXISTS nonces (device TEXT PRIMARY KEY, nonce INTEGER);
+CREATE TABLE IF NOT EXISTS repeats (kind TEXT, device TEXT, count INTEGER, last REAL,
+    is_open INTEGER, PRIMARY KEY (kind, device)) WITHOUT ROWID;
 """
-UPLINK = "INSERT OR IGNORE INTO uplinks VALUES (?, ?, ?, ?, ?, ?, ?, ?, ?, ?, ?, ?)"
+# for a database of an earlier version
+COLUMNS = "SELECT name FROM pragma_table_info('uplinks')"
+ADD = "ALTER TABLE uplinks ADD COLUMN hash INTEGER"
+UPLINK = "INSERT OR IGNORE INTO uplinks VALUES (?, ?, ?, ?, ?, ?, ?, ?, ?, ?, ?, ?, ?)"
 SESSION = "INSERT OR REPLACE INTO sessions VALUES (?, ?, ?, ?, ?, ?)"
 STATUS = "INSERT OR IGNORE INTO statuses VALUES (?, ?, ?, ?)"
 EVENT = "INSERT INTO events (came, kind, of, text) VALUES (?, ?, ?, ?)"
@@ -38,6 +44,8 @@ MINUTE = "INSERT OR REPLACE INTO minutes VALUES (?, ?, ?, ?, ?, ?, ?)"
 HOUR = "INSERT OR REPLACE INTO gateway_hours VALUES (?, ?, ?, ?, ?)"
 ADAPTION = "INSERT OR REPLACE INTO adaptions VALUES (?, ?, ?, ?, ?, ?, ?, ?, ?)"
 NAME = "INSERT OR REPLACE INTO names VALUES (?, ?)"
+NONCE = "INSERT OR REPLACE INTO nonces VALUES (?, ?)"
+REPEATED = "INSERT OR REPLACE INTO repeats VALUES (?, ?, ?, ?, ?)"
 MONTH, YEAR = 31 * 86_400, 366 * 86_400
 # how many events stay, however many a stranger causes
 MOST_EVENTS = 200_000
@@ -55,6 +63,8 @@ class History:
         self.writing.execute("PRAGMA journal_mode=WAL")
         self.writing.execute("PRAGMA synchronous=NORMAL")
         self.writing.executescript(TABLES)
+        if ("hash",) not in self.writing.execute(COLUMNS).fetchall():
+            self.writing.execute(ADD)
         self.reading = sqlite3.connect(file)
         self.waiting: list[Row] = []
         self.came = asyncio.Event()

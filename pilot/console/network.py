@@ -21,6 +21,7 @@ from .devices import (
     Uplink,
 )
 from .history import History
+from .repeats import Repeats
 from .servers import Server, servers_of, serving
 
 DAY = 86_400
@@ -73,6 +74,7 @@ class Network:
         self.gateways: dict[str, Gateway] = {}
         self.names: dict[str, str] = {}
         self.refused: dict[tuple[int, str], Refused] = {}
+        self.repeats = Repeats(kept)
         self.events: deque[Event] = deque(maxlen=MOST_EVENTS)
         self.minutes: dict[int, Minute] = {}
         self.passed: dict[tuple[str, int], tuple[int, list[tuple[int, int]]]] = {}

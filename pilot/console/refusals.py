@@ -35,8 +35,8 @@ REFUSALS = {
     4: Refusal(
         "BadMic",
         "The device's key isn't the AppKey that was provisioned.",
-        "Compare both keys, and write the provisioned AppKey to the device: a provisioned key "
-        "can't be changed.",
+        "Compare both keys. Correct a wrong provisioned one by lnsd amend, or write the right one "
+        "to the device. A retired device needs nothing.",
     ),
     5: Refusal(
         "CounterGap",

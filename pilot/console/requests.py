@@ -6,13 +6,18 @@ import re
 from dataclasses import dataclass
 
 from bridges.application_events import REFUSALS
-from bridges.asks import UNCLAIMED
+from bridges.asks import HELD, UNCLAIMED
 
 # how long an answer may take, in seconds: the bridge itself waits 30 for the server's
 PATIENCE = 40.0
 UNKNOWN_DEVICE = "refused 7"
 NO_CLAIM = "No claim says which store the device is for: claim it, and add it then."
+ANOTHER_STORE = (
+    "Not added: the server doesn't know devices that it had. Its store is another one, or an older "
+    "one. The journal of applications-mqtt says what to do."
+)
 UNANSWERED = "No answer came. It may have been done: check before you send it again."
+WITHOUT_ANSWER = {UNCLAIMED: NO_CLAIM, HELD: ANOTHER_STORE}
 
 
 @dataclass(frozen=True)
@@ -79,4 +84,4 @@ def answer_of(line: str) -> Answer:
         return Answer(True, f"Added, in slot {rest.split(' ')[-1]}.")
     if kind in ("queued", "macqueued"):
         return Answer(True, "Queued. It is sent after the device's next uplink.")
-    return Answer(False, NO_CLAIM if line == UNCLAIMED else UNANSWERED)
+    return Answer(False, WITHOUT_ANSWER.get(line, UNANSWERED))

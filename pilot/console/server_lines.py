@@ -4,9 +4,12 @@
 import re
 import time
 
+from bozintar.logs import warn
+
 from .devices import Uplink
 from .network import Network
 from .refusals import UNKNOWN_DEV_EUI, refusal
+from .repeats import JOINED
 from .servers import Server
 
 # of a line of `lnsd devices`: a later server may add words at its end
@@ -22,6 +25,7 @@ REFUSED = re.compile(
     r" (?P<gateway>[0-9A-F]{16}) \d{1,10} \d{1,2} (?P<snr>-?\d{1,4}) -?\d{1,4}(?: .*)?"
 )
 NUMBER = re.compile(r"\d{1,20}")
+NONCES = range(1, 2**24)
 EUI = re.compile(r"[0-9A-F]{16}")
 # of the lower 25 bits of a DevAddr the upper twelve are the device's slot
 NWK_ADDR, SESSIONS_OF_SLOT = 0x1FF_FFFF, 13
@@ -122,6 +126,8 @@ def take_listed(network: Network, server: Server, match: re.Match[str]) -> None:
     """A line of the list."""
     device = network.device(match["eui"])
     device.slot, device.granted = int(match["slot"]), int(match["granted"])
+    # the last one may be listed before its line `joined` comes
+    network.repeats.know(device.eui, device.granted - 1)
     device.items, device.heard, device.store = int(match["items"]), int(match["heard"]), server.name
     server.by_slot[device.slot] = device.eui
     device.session, device.last_up, device.next_down = (
@@ -156,7 +162,7 @@ def take_line(network: Network, line: str, of: Server | None = None) -> None:
     elif kind == "silent":
         network.note("link", "", server.label("Link closed: no greeting in ten seconds"))
     elif kind == "left_out":
-        text = f"{rest} events weren't printed: too many at a time"
+        text = f"{rest} events weren't printed: too many at a time, or no memory"
         network.note("server", "", server.label(text))
     elif kind == "gone":
         set_serving(network, server, False)
@@ -197,13 +203,26 @@ def is_of_another_store(network: Network, server: Server, found: re.Match[str]) 
 def take_joined(network: Network, server: Server, words: list[str]) -> None:
     """A join was accepted."""
     eui, nonce, gateway = words[:3]
-    if not (EUI.fullmatch(eui) and EUI.fullmatch(gateway) and NUMBER.fullmatch(nonce)):
+    is_nonce = NUMBER.fullmatch(nonce) and int(nonce) in NONCES
+    if not (EUI.fullmatch(eui) and EUI.fullmatch(gateway) and is_nonce):
         raise ValueError("no device, JoinNonce and gateway")
     network.minute().joins += 1
+    compare(network, server, eui, int(nonce))
     device = network.device(eui)
     device.granted, device.store = int(nonce), server.name
     network.accept_join(eui)
     network.note("joined", eui, server.label(f"Joined, by gateway {gateway} (JoinNonce {nonce})"))
+
+
+def compare(network: Network, server: Server, eui: str, nonce: int) -> None:
+    """A JoinNonce is above all that a device had, unless the store is another one, or older."""
+    highest = network.repeats.highest.get(eui, 0)
+    if nonce <= highest:
+        count = network.repeats.add(JOINED, eui, time.time())
+        text = server.label(f"JoinNonce {nonce} was granted after {highest} (so far {count} times)")
+        network.note("repeat", eui, text)
+        warn(f"{eui}: {text}")
+    network.repeats.know(eui, nonce)
 
 
 def take_link(network: Network, server: Server, kind: str, name: str) -> None:

@@ -113,6 +113,7 @@ class Site:
         for path, handler in pages.items():
             made.router.add_get(path, handler)
         made.router.add_post(DEVICE, self.command)
+        made.router.add_post("/", self.confirm)
         made.router.add_post("/gateways", self.name_gateway)
         made.router.add_post("/add", self.provision)
         return made
@@ -274,7 +275,7 @@ class Site:
 
     async def health(self, _request: web.Request) -> web.Response:
         """For a monitor: 503 if a person should look at once."""
-        grave = [of.what for of in self.problems() if of.level == attention.GRAVE]
+        grave = [of.what for of in self.problems() if of.level <= attention.GRAVE]
         return web.json_response({"problems": grave}, status=503 if grave else 200)
 
     async def static(self, request: web.Request) -> web.Response:
@@ -300,6 +301,17 @@ class Site:
         self.note(request, eui, f"Name set to {self.network.names[eui]!r}")
         user: User = request["user"]
         return self.done(request, Outcome(user.name, [("", Answer(True, "Saved."))]))
+
+    async def confirm(self, request: web.Request) -> web.StreamResponse:
+        """An operator has seen what came twice, and how often."""
+        form, user = request["form"], request["user"]
+        kind, seen = form.get("kind", ""), form.get("seen", "")
+        answer = Answer(False, "It isn't as you saw it any more: look again.")
+        if self.network.repeats.confirm(kind, seen):
+            self.note(request, "", f"Confirmed: {attention.REPEATS[kind][1]}, {seen} times")
+            answer = Answer(True, "Confirmed.")
+        self.found_at = 0.0
+        raise self.done(request, Outcome(user.name, [("", answer)]))
 
     async def name_gateway(self, request: web.Request) -> web.StreamResponse:
         """Names a gateway."""

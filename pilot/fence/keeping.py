@@ -224,8 +224,9 @@ class Life:
             return
         if self.guard:
             self.guard.cancel()
-        left = self.hold.begun + self.given.lease * STRICT - time.monotonic()
-        self.guard = asyncio.get_running_loop().call_later(max(0.0, left), self.bite)
+        # the loop's clock is time.monotonic
+        last = self.hold.begun + self.given.lease * STRICT
+        self.guard = asyncio.get_running_loop().call_at(last, self.bite)
 
     def bite(self) -> None:
         """The lease wasn't renewed in time."""

@@ -86,6 +86,8 @@ class Server:
         # it is to end, also if it hasn't begun yet
         self.is_killed = False
         self.ended: asyncio.Task[int] | None = None
+        # its first line was read, or its end: two coroutines can't read at once
+        self.has_begun = asyncio.Event()
 
     async def start(self) -> str:
         """Starts it; its address, or nothing if it has ended."""
@@ -102,13 +104,16 @@ class Server:
         if self.is_killed:
             self.kill()
         out = self.process.stdout
-        said = (await out.readline()).decode().split() if out else []
+        try:
+            said = (await out.readline()).decode().split() if out else []
+        finally:
+            self.has_begun.set()
         return said[1] if said[:1] == ["listening"] else ""
 
-    @staticmethod
-    async def to_the_end(process: asyncio.subprocess.Process) -> int:
+    async def to_the_end(self, process: asyncio.subprocess.Process) -> int:
         """Waits for its end; its status."""
         status = await process.wait()
+        await self.has_begun.wait()
         if process.stdout and (rest := (await process.stdout.read()).decode().split("\n")):
             log(f"the server ended with status {status}: {', '.join(filter(None, rest)) or '-'}")
         return status

@@ -1,18 +1,22 @@
 """A limit to how often something is done."""
 
+import time
+from collections.abc import Callable
+
 
 class Bucket:
     """A token bucket: `rate` things a second are let through, and up to `burst` at once after a
     pause."""
 
-    def __init__(self, rate: float, burst: float):
-        self.rate, self.burst = rate, burst
-        self.tokens, self.moment = burst, 0.0
+    def __init__(self, rate: float, burst: float, clock: Callable[[], float] = time.monotonic):
+        self.rate, self.burst, self.clock = rate, burst, clock
+        self.tokens, self.moment = burst, clock()
 
-    def lets(self, moment: float) -> bool:
-        """Whether one more is let through, at a moment in seconds that isn't before the last."""
-        grown = self.tokens + self.rate * (moment - self.moment)
-        self.tokens, self.moment = min(self.burst, grown), moment
+    def lets(self) -> bool:
+        """Whether one more is let through now."""
+        now = self.clock()
+        self.tokens = min(self.burst, self.tokens + self.rate * (now - self.moment))
+        self.moment = now
         is_let = self.tokens >= 1
         self.tokens -= is_let
         return is_let

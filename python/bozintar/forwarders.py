@@ -12,7 +12,7 @@ from collections.abc import Callable, Iterable
 from typing import Any
 
 from .meters import Meter
-from .processes import HOST
+from .processes import HOST, PATIENCE, Failed
 
 PULLS_EVERY = 1.0
 SPREADING = {rate: f"SF{12 - rate}BW125" for rate in range(6)}
@@ -24,14 +24,17 @@ class Forwarder:
 
     up: socket.socket | None = None
     down: socket.socket
+    # by how much a downlink may come after its moment, in seconds: a busy machine is late
+    slack = 9.0
 
     def __init__(self, eui: str, port: int, version: int = 2, begins: int = 0, host: str = HOST):
         self.eui, self.version, self.server = bytes.fromhex(eui), version, (host, port)
         self.begun = time.monotonic() - begins / 1e6
         self.token, self.next_pull = 0, 0.0
+        # its clock when it heard the last frame, and the newest datagram that was acknowledged
+        self.stamp, self.acked = 0, 0
         # what it answers instead of sending, in turn
         self.errors: deque[str] = deque()
-        self.acknowledged = 0
         self.told: list[dict] = []
         self.move()
 
@@ -80,8 +83,9 @@ class Forwarder:
 
     def rxpk(self, frame: bytes, hz: int, data_rate: int, snr: float, rssi: int) -> dict:
         """What it says of a frame."""
+        self.stamp = self.clock()
         return {
-            "tmst": self.clock(),
+            "tmst": self.stamp,
             "chan": 0,
             "rfch": 0,
             "freq": hz / 1e6,
@@ -118,20 +122,28 @@ class Forwarder:
             data = own.recv(65536)
         except ConnectionRefusedError:
             return None
+        token = int.from_bytes(data[1:3], "big")
         if data[3] in (1, 4):
-            self.acknowledged += 1
+            self.acked = max(token, self.acked)
             return None
         txpk = json.loads(data[4:])["txpk"]
         self.told.append(txpk)
-        token = int.from_bytes(data[1:3], "big")
         error = self.errors.popleft() if self.errors else self.fault_of(txpk)
         self.say(5, json.dumps({"txpk_ack": {"error": error or "NONE"}}).encode(), token)
         return None if error else base64.b64decode(txpk["data"])
 
+    def await_read(self) -> None:
+        """Waits until the bridge has read all that was said, and all that it said then has come."""
+        self.say(2)
+        token = self.token
+        if not Air([self], []).go_on(PATIENCE, lambda: self.acked >= token):
+            raise Failed("the bridge doesn't answer")
+
     def fault_of(self, txpk: dict) -> str:
         """What a forwarder finds wrong with a moment."""
         left = (txpk["tmst"] - self.clock() + 2**31) % 2**32 - 2**31
-        return "TOO_LATE" if left < 0 else "TOO_EARLY" if left > 20_000_000 else ""
+        is_late = left < -self.slack * 1e6
+        return "TOO_LATE" if is_late else "TOO_EARLY" if left > 20_000_000 else ""
 
 
 class Air:

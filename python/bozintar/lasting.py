@@ -4,7 +4,7 @@ import asyncio
 import socket
 import time
 from collections import deque
-from collections.abc import AsyncIterator
+from collections.abc import AsyncIterator, Callable
 
 from . import wire
 from .links import refuse_itself
@@ -29,10 +29,16 @@ STEADY = 4
 # a link has no signs of life, so the system asks for them
 KEEPALIVE = ((socket.TCP_KEEPIDLE, 60), (socket.TCP_KEEPINTVL, 15), (socket.TCP_KEEPCNT, 4))
 
+# whether a message is sent: it, when it was meant to be sent, now, and where it goes
+Judge = Callable[[bytes, float, float, asyncio.WriteTransport], bool]
+
 
 class Link:
     """The link of one name: what is sent while there is none is refused, and what comes is read
-    on. Messages are sent, and contents are read."""
+    on. Messages are sent, if `judge` lets them, and contents are read."""
+
+    # how long messages wait is measured by it
+    clock: Callable[[], float] = staticmethod(time.monotonic)
 
     def __init__(
         self,
@@ -40,7 +46,9 @@ class Link:
         address: Address,
         greeting: bytes,
         pauses: tuple[float, float] = PAUSES,
+        judge: Judge = lambda *_: True,
     ):
+        self.judge = judge
         self.name, self.address, self.greeting, self.pauses = name, address, greeting, pauses
         self.writer: asyncio.StreamWriter | None = None
         self.opened, self.is_ending = 0, False
@@ -52,14 +60,15 @@ class Link:
         # links that the network closed soon, as it does if another client takes the name
         self.closed_soon = 0
 
-    def say(self, message: bytes) -> bool:
-        """Sends a message; whether there was a link that takes it."""
-        if not self.writer:
+    def say(self, message: bytes, meant: float = 0.0) -> bool:
+        """Sends a message, if `judge` lets it; whether there was a link that takes it."""
+        if not self.writer or self.is_ending:
             return False
         transport = self.writer.transport
         if transport.is_closing() or transport.get_write_buffer_size() > MOST_WAITING:
             return False
-        transport.write(message)
+        if self.judge(message, meant, self.clock(), transport):
+            transport.write(message)
         return True
 
     def say_soon(self, message: bytes) -> bool:
@@ -67,17 +76,18 @@ class Link:
         now. What waits is sent before it, since an older message is of no use after it."""
         if self.early:
             self.catch_up()
-        is_said = not self.early and self.say(message)
+        now = self.clock()
+        is_said = not self.early and self.say(message, now)
         if not is_said:
-            self.early.append((time.monotonic(), message))
+            self.early.append((now, message))
         return is_said
 
     def catch_up(self) -> None:
         """Sends what waited for a link, if one takes it now."""
-        last = time.monotonic() - LATEST
+        last = self.clock() - LATEST
         while self.early:
             moment, message = self.early[0]
-            if moment > last and not self.say(message):
+            if moment > last and not self.say(message, moment):
                 return
             self.early.popleft()
             self.caught_up += moment > last

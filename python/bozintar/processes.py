@@ -13,6 +13,7 @@ import tempfile
 import time
 from collections.abc import Callable, Iterator
 from contextlib import suppress
+from functools import partial
 from typing import Any, TypeVar
 
 HOST = "127.0.0.1"
@@ -20,10 +21,18 @@ PATIENCE = 60.0
 SBIN = "/usr/sbin:/usr/bin:/sbin"
 T = TypeVar("T")
 S = TypeVar("S", bound="Processes")
+# the signals by which the system ends a program that did what it may not
+CRASHES = (signal.SIGABRT, signal.SIGBUS, signal.SIGFPE, signal.SIGILL, signal.SIGSEGV)
+# what was started since `forget_started`
+STARTED: list[subprocess.Popen] = []
 
 
 class Failed(Exception):
     """A program did something else than it should have."""
+
+
+class Late(Failed):
+    """What was awaited didn't come in time, or no port was free. That may be the machine's fault."""
 
 
 def own_ports() -> Iterator[int]:
@@ -47,7 +56,7 @@ def free_port() -> int:
                 return port
             except OSError:
                 pass
-    raise Failed("no port is free")
+    raise Late("no port is free")
 
 
 def command(name: str) -> str:
@@ -59,15 +68,33 @@ def command(name: str) -> str:
 
 
 def await_that(
-    what: str, is_so: Callable[[], T], seconds: float = PATIENCE, step: float = 0.02
+    what: str,
+    is_so: Callable[[], T],
+    seconds: float = PATIENCE,
+    step: float = 0.02,
+    fault: type[Failed] = Late,
 ) -> T:
     """Waits until something is so; what it is then."""
     last = time.monotonic() + seconds
     while not (value := is_so()):
         if time.monotonic() > last:
-            raise Failed(f"{what}: not so after {seconds:.0f} seconds")
+            raise fault(f"{what}: not so after {seconds:.0f} seconds")
         time.sleep(step)
     return value
+
+
+# Waits for readings: what isn't there after a minute is lost, and not late.
+await_all = partial(await_that, fault=Failed)
+
+
+def has_crashed() -> bool:
+    """Whether a process that was started since `forget_started` has crashed."""
+    return any(-(process.poll() or 0) in CRASHES for process in STARTED)
+
+
+def forget_started() -> None:
+    """Forgets what was started so far."""
+    STARTED.clear()
 
 
 class Process:
@@ -89,6 +116,7 @@ class Process:
             self.process = subprocess.Popen(
                 self.words, stdin=subprocess.DEVNULL, stdout=out, stderr=log, **how
             )
+        STARTED.append(self.process)
         if ready:
             await_that(f"{self.name} prints {ready!r}", lambda: self.has_said(ready))
         return self
@@ -151,7 +179,7 @@ class Process:
         except subprocess.TimeoutExpired:
             process.kill()
             process.wait()
-            raise Failed(f"{self.name} didn't end in {seconds:.0f} seconds") from None
+            raise Late(f"{self.name} didn't end in {seconds:.0f} seconds") from None
 
     def kill(self) -> None:
         """Ends it by SIGKILL."""

@@ -8,7 +8,7 @@ from argparse import ArgumentTypeError
 from pathlib import Path
 from typing import Any
 
-from .processes import HOST, Failed, Process, await_that, free_port
+from .processes import HOST, Failed, Late, Process, await_that, free_port
 from .words import Words, is_program
 
 BUILT = str(Path(__file__).resolve().parents[2] / "crates/lnsd/out/lnsd")
@@ -70,7 +70,7 @@ class Program:
                 **how,
             )
         except subprocess.TimeoutExpired:
-            raise Failed(f"lnsd {words[0]} had not ended after {seconds} seconds") from None
+            raise Late(f"lnsd {words[0]} had not ended after {seconds} seconds") from None
         return ended.returncode, ended.stdout.decode(), ended.stderr.decode()
 
     def format(self, net_id: str = "00002A", slots: int = 8) -> Ended:
@@ -153,7 +153,7 @@ class Program:
         try:
             status = server.running().wait(seconds)
         except subprocess.TimeoutExpired:
-            raise Failed(f"the server had not ended after {seconds} seconds") from None
+            raise Late(f"the server had not ended after {seconds} seconds") from None
         self.server, out = None, server.now()
         listening, _, rest = out.partition("\n")
         return status, rest if listening.startswith("listening ") else out, server.errors()

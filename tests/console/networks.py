@@ -4,6 +4,7 @@ a lookout, and what plays meters and gateways. What takes the console's requests
 import asyncio
 import threading
 import urllib.request
+from collections.abc import Callable
 from pathlib import Path
 from typing import Any
 
@@ -132,3 +133,33 @@ class Whole:
     def file(self, name: str) -> Path:
         """A file of its folder."""
         return Path(self.pilot.file(name))
+
+
+# how a part is killed and started again, and what the console says meanwhile
+KILLS: dict[str, tuple[Callable[[Whole], Any], Callable[[Whole], Any], str]] = {
+    "console": (
+        lambda network: network.console.kill(),
+        lambda network: network.console.start("listens on"),
+        "No answer from the console for",
+    ),
+    "lookout": (
+        lambda network: network.lookout.kill(),
+        lambda network: network.lookout.start("passes on what"),
+        "No server answers",
+    ),
+    "broker": (
+        lambda network: network.broker.kill(),
+        lambda network: network.broker.start("running"),
+        "The broker is away",
+    ),
+    "lnsd": (
+        lambda network: network.pilot.program.kill(),
+        lambda network: network.pilot.program.run_on(96, port=network.pilot.address[1]),
+        "No server answers",
+    ),
+    "gateways": (
+        lambda network: network.gateways.kill(),
+        lambda network: network.gateways.start("listens on"),
+        "Gateway Church tower is offline",
+    ),
+}

@@ -155,6 +155,13 @@ class Console:
         self.kept.close()
         self.loop.close()
 
+    def again(self) -> None:
+        """It is killed, which loses what isn't written, and is started again."""
+        self.kept.waiting.clear()
+        self.close()
+        self.__init__(Path(self.socket).parent)  # type: ignore[misc]
+        self.serves(listed(0, DEVICE))
+
     # what it hears
 
     def serves(self, *devices: str) -> None:

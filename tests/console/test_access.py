@@ -11,10 +11,13 @@ import pytest
 from console.access import secure
 
 from .certificates import Authority
-from .sites import DEVICE, KEY, Console, listed
+from .sites import DEVICE, GATEWAY, KEY, Console, listed
 
 PATH = f"/devices/{DEVICE}"
 ITEM = {"what": "item", "port": "7", "payload": "C0FFEE"}
+# lines that raise an alarm, and the form that confirms it
+TWICE = [f"joined {DEVICE} 1 {GATEWAY}"] * 2
+CONFIRMATION = {"kind": "joined", "seen": "1"}
 OWN, ALIEN = "own", "http://evil.example"
 
 
@@ -79,10 +82,13 @@ READS = [
 ]
 
 
+@pytest.mark.parametrize("path, form", [(PATH, ITEM), ("/", CONFIRMATION)], ids=["item", "alarm"])
 @pytest.mark.parametrize("name, host, origin, site, token, status", FORMS)
 def test_forms(
     secured: Console,
     authority: Authority,
+    path: str,
+    form: dict,
     name: str,
     host: str,
     origin: str | None,
@@ -90,7 +96,9 @@ def test_forms(
     token: str | None,
     status: int,
 ) -> None:
-    """A form is done if all of it is right, and refused otherwise; only a done one is sent on."""
+    """A form is done if all of it is right, and refused otherwise; only a done one is sent on, or
+    confirms an alarm."""
+    secured.lines(*TWICE)
     tokens = {
         of: secured.get(PATH, ssl=authority.client(of)).token
         for of in ("operator-alice", "reader-bob")
@@ -101,13 +109,15 @@ def test_forms(
         headers["Origin"] = origins.get(origin, origin)
     if site is not None:
         headers["Sec-Fetch-Site"] = site
-    form = dict(ITEM)
+    form = dict(form)
     if token is not None:
         form["token"] = tokens[name] if token == OWN else tokens.get(token, token)
     how = {"ssl": authority.client(name), "allow_redirects": False}
-    page = secured.run(secured.request("POST", PATH, data=form, headers=headers, **how))
+    page = secured.run(secured.request("POST", path, data=form, headers=headers, **how))
     assert page.status == status
-    assert len(secured.bridge.asked) == (status == 303)
+    assert len(secured.bridge.asked) == (status == 303 and path == PATH)
+    is_confirmed = secured.get("/health", ssl=authority.client("operator-alice")).status == 200
+    assert is_confirmed == (status == 303 and path == "/")
     assert "Content-Security-Policy" in page.headers
 
 
@@ -138,14 +148,17 @@ def test_readers_see_no_forms(secured: Console, authority: Authority) -> None:
     assert "Send a command" in page.text and "read only" not in page.text
 
 
-@pytest.mark.parametrize("path", [PATH, "/add", "/gateways"])
+@pytest.mark.parametrize("path", [PATH, "/add", "/gateways", "/"])
 def test_loopback_reads(folder: Path, path: str) -> None:
     """On loopback clients may read, and not write."""
     console = Console(folder, may_write=False)
     console.serves(listed(0, DEVICE))
+    console.lines(*TWICE)
     page = console.get(path)
     assert page.status == 200 and 'method="post"' not in page.markup
-    assert console.post(path, {**ITEM, "token": page.token}).status == 403
+    assert console.post(path, {**ITEM, **CONFIRMATION, "token": page.token}).status == 403
+    assert ("Only an operator can confirm it." in page.text) == (path == "/")
+    assert console.get("/health").status == 503
     console.close()
 
 

@@ -43,6 +43,8 @@ WRONG = [
     "joined",
     "joined x",
     f"joined {DEVICE} x {GATEWAY}",
+    f"joined {DEVICE} 0 {GATEWAY}",
+    f"joined {DEVICE} {2**64} {GATEWAY}",
     "linked",
     "linked gateway x",
     "dropped",
@@ -71,7 +73,7 @@ def test_wrong_lines(console: Console, line: str) -> None:
     except (ValueError, IndexError):
         pass  # what the console logs
     assert console.network.devices == devices
-    assert console.get("/").status == 200
+    assert console.get("/").status == console.get("/health").status == 200
 
 
 def test_other_network(console: Console) -> None:

@@ -10,8 +10,9 @@ from pathlib import Path
 from typing import Any
 
 import pytest
-from bozintar.processes import Processes, await_that
+from bozintar.processes import PATIENCE, Processes, await_that
 
+from ..pilot.parts import program_of_pilot
 from .sites import STATUS
 
 Attend = Callable[[asyncio.StreamReader, asyncio.StreamWriter], Coroutine[Any, Any, None]]
@@ -78,7 +79,7 @@ class Lookout:
     def client(self, word: bytes) -> socket.socket:
         """A client that has sent a word."""
         made = socket.socket(socket.AF_UNIX)
-        made.settimeout(20)
+        made.settimeout(PATIENCE)
         made.connect(self.path)
         made.sendall(word)
         return made
@@ -87,7 +88,7 @@ class Lookout:
         """All that a client gets for a word."""
         client, found = self.client(f"{word}\n".encode()), b""
         client.settimeout(0.05)
-        last = time.monotonic() + 20
+        last = time.monotonic() + PATIENCE
         while time.monotonic() < last:
             self.server.go_on(0.02)
             try:
@@ -104,7 +105,7 @@ class Lookout:
         """What a client that watches gets, up to this text."""
         found = ""
         client.settimeout(0.05)
-        last = time.monotonic() + 20
+        last = time.monotonic() + PATIENCE
         while text not in found and time.monotonic() < last:
             self.server.go_on(0.02)
             try:
@@ -134,17 +135,20 @@ def test_words(lookout: Lookout) -> None:
     assert set(lookout.server.asked) <= {"status", "devices", "watch"}
 
 
-def test_rates(lookout: Lookout) -> None:
+@pytest.mark.parametrize("word, every", [("status", 1), ("devices", 10)])
+def test_rates(lookout: Lookout, word: str, every: int, monkeypatch: pytest.MonkeyPatch) -> None:
     """Clients that ask often share an answer: the server is asked once a second for its status, and
     once in ten seconds for the devices."""
-    lookout.server.start()
-    begun = time.monotonic()
-    for _ in range(10):
-        assert lookout.answer("devices") == "devices 0 seq 4\n"
-        assert lookout.answer("status") == STATUS
-    elapsed = time.monotonic() - begun
-    assert lookout.server.asked.count("devices") <= 1 + elapsed / 10
-    assert lookout.server.asked.count("status") <= 1 + elapsed
+    program, server, now = program_of_pilot("console/lookout"), lookout.server, 1000.0
+    monkeypatch.setattr(program.Question, "clock", lambda _: now)
+    question = program.Lookout(lookout.parts.file("store"), "").questions[word]
+    server.start()
+    for pause, count in ((0, 1), (0, 1), (every - 0.25, 1), (0.25, 2), (every - 0.25, 2)):
+        now += pause
+        asked = asyncio.wait([server.loop.create_task(question.answer()) for _ in range(5)])
+        for task in server.loop.run_until_complete(asked)[0]:
+            assert task.result().decode() == server.answers[word]
+        assert server.asked.count(word) == count
 
 
 def test_watch(lookout: Lookout) -> None:
@@ -171,16 +175,20 @@ def test_watch(lookout: Lookout) -> None:
 
 def test_busy(lookout: Lookout) -> None:
     """A server that has four watches already is no watch."""
-    client = lookout.client(b"watch\n")
+    client, asked = lookout.client(b"watch\n"), list[bytes]()
 
     async def busy(reader: asyncio.StreamReader, writer: asyncio.StreamWriter) -> None:
-        await reader.readline()
+        asked.append(await reader.readline())
         writer.write(b"busy\n")
         writer.close()
 
     lookout.server.start(busy)
-    lookout.server.go_on(2.5)
-    assert lookout.read(client, "gone\n") == "gone\n"
+    last = time.monotonic() + PATIENCE
+    while len(asked) < 3:
+        assert time.monotonic() < last, "it tries again"
+        lookout.server.go_on()
+    assert lookout.process.end() == 0
+    assert b"".join(iter(lambda: client.recv(100), b"")) == b"gone\n"
     client.close()
 
 
@@ -194,7 +202,7 @@ def test_slow_client(lookout: Lookout) -> None:
         lookout.read(well, f"left_out {number:0500}\n" * 50)
     lookout.server.print("checkpoint")
     assert "checkpoint" in lookout.read(well, "checkpoint")
-    slow.settimeout(20)
+    slow.settimeout(PATIENCE)
     size = 0
     try:
         while piece := slow.recv(1 << 20):

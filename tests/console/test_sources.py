@@ -129,7 +129,7 @@ def test_full_disk(folder: Path) -> None:
     written."""
     kept = History(str(folder / "full.db"))
     kept.writing.execute("PRAGMA max_page_count=40")
-    row = (DEVICE, 1, 0, 0.0, 7, 5, 7.5, -90, GATEWAY, 867_100_000, 1, 6)
+    row = (DEVICE, 1, 0, 0.0, 7, 5, 7.5, -90, GATEWAY, 867_100_000, 1, 6, 0)
     for counter in range(5000):
         kept.add(history.UPLINK, *row[:2], counter, *row[3:])
     kept.write_waiting()

@@ -1,6 +1,7 @@
 """An etcd that is played: it keeps values and leases by the rules of etcd's transactions, and loses
 or delays what a trial says."""
 
+import time
 from collections.abc import Callable, Sequence
 from typing import Any
 
@@ -19,6 +20,8 @@ class Played:
         self.leases: dict[int, set[str]] = {}
         self.revision, self.leases_made = 1, 0
         self.faults: list[str] = []
+        # when a lease was asked for last
+        self.asked = 0.0
         self.late: list[Callable[[], Any]] = []
 
     def get(self, key: str) -> Value:
@@ -74,12 +77,14 @@ class Played:
 
     def lease(self, _seconds: int) -> int:
         """A new lease."""
+        self.asked = time.monotonic()
         self.leases_made += 1
         self.leases[self.leases_made] = set()
         return self.leases_made
 
     def renew(self, lease: int) -> bool:
         """Whether a lease is still there."""
+        self.asked = time.monotonic()
         return lease in self.leases
 
     def revoke(self, lease: int) -> None:

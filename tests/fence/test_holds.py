@@ -1,6 +1,9 @@
 """A hold of a store while answers of etcd are lost, come late, or come after a newer life has
 begun."""
 
+import asyncio
+import time
+from argparse import Namespace
 from collections.abc import Sequence
 from dataclasses import replace
 from typing import cast
@@ -8,8 +11,11 @@ from typing import cast
 import pytest
 from bozintar.members import Access
 from bozintar.words import Address
+from fence import commands, files
 from fence.etcd import Etcd, Gone, NoLease, Outcome, Puts
-from fence.holds import Hold, Lost, seen
+from fence.holds import Hold, Lost, Seen, seen
+from fence.judging import Found, Word
+from fence.keeping import STRICT, Keeper, Life
 from fence.records import FENCE, RUNNING, SERVING, STORE, Fence, Serving, known
 
 from .played import AWAY, LATE, LOST, Played
@@ -229,6 +235,42 @@ def test_a_lease_that_is_over(trial: Trial) -> None:
     hold.is_shown = False
     with pytest.raises(NoLease):
         hold.see(7)
+
+
+def test_file_beside_a_new_lease(trial: Trial, monkeypatch: pytest.MonkeyPatch) -> None:
+    """A file doesn't take a store's place if its keeper gets a new lease at this moment."""
+    hold = trial.take("a")
+    hold.show("h:1")
+    trial.expire(hold)
+
+    def seen_before(etcd: Etcd, name: str) -> Seen:
+        there = seen(etcd, name)
+        hold.grant()
+        hold.see(5)
+        return there
+
+    monkeypatch.setattr(commands, "seen", seen_before)
+    monkeypatch.setattr(files, "found", lambda *_: Found(NET_ID, "-", "dd", 5))
+    given = Namespace(name=NAME, file="other", host="")
+    assert commands.put_file(trial.etcd, given, Word(replaces=1)) == 1
+    assert trial.fence() == fence_of("a")
+
+
+def test_strict(trial: Trial) -> None:
+    """With --strict the timer that kills the server is due before the lease can be over."""
+    given = Namespace(strict=True, lease=SECONDS, lnsd="", file="", listen="", machine="1", host="")
+
+    async def watch() -> None:
+        hold = trial.hold()
+        for begin in (hold.grant, hold.renew):
+            asked = time.monotonic()
+            begin()
+            life = Life(Keeper(given, trial.etcd), hold, 0)
+            life.watch()
+            assert life.guard and asked <= hold.begun <= trial.played.asked
+            assert life.guard.when() == hold.begun + SECONDS * STRICT < hold.begun + SECONDS
+
+    asyncio.run(watch())
 
 
 def test_nobody_there() -> None:

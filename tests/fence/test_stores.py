@@ -144,14 +144,17 @@ def test_lists_of_all(operator: Operator, two: list[Kept]) -> None:
 
 
 def test_a_machine_that_cant_be_asked(operator: Operator, two: list[Kept]) -> None:
-    """A store that can't be asked is named, and the others are listed."""
-    words = operator.words("devices")
-    words[words.index("--ssh") + 1] = "false"
-    words[words.index("--host") + 1] = "m1"
-    said = subprocess.run(words, capture_output=True, text=True, check=False)
-    assert said.returncode == 1
-    assert said.stdout.splitlines() == devices_of(two[1])
-    assert said.stderr.startswith("d00 on m0 can't be asked: ")
+    """A store that can't be asked is named, and the others are listed, or checked."""
+    due = devices_of(two[1])
+    operator.types("claim", "d01", operator.file("one.csv", due[0].split()[2]))
+    checked = ["devices 1, twice 0, not claimed 0, stores not asked 1"]
+    for command, lines in (("devices", due), ("check", checked)):
+        words = operator.words(command)
+        words[words.index("--ssh") + 1] = "false"
+        words[words.index("--host") + 1] = "m1"
+        said = subprocess.run(words, capture_output=True, text=True, check=False)
+        assert (said.returncode, said.stdout.splitlines()) == (1, lines)
+        assert said.stderr.startswith("d00 on m0 can't be asked: ")
 
 
 def test_watch(operator: Operator, two: list[Kept]) -> None:

@@ -6,7 +6,7 @@ import subprocess
 import sys
 from typing import Any
 
-from bozintar.processes import HOST, Process, await_that, free_port
+from bozintar.processes import HOST, Process, await_all, await_that, free_port
 
 from tests.pilot.parts import Parts
 from tests.pilot.whole import Dashboard
@@ -98,7 +98,7 @@ def test_two_stores(program: str) -> None:
             for meter in (1, 2):
                 city.printed("play", "--udp", city.settings["UDP"], "--meter", meter, "--count", 1)
             found = lambda: {name: body for name, kind, body in dashboard.events if kind == "up"}
-            await_that("a reading of each", lambda: len(found()) == 2, LONG)
+            await_all("a reading of each", lambda: len(found()) == 2, LONG)
             stores = [body["deviceInfo"]["store"] for _, body in sorted(found().items())]
             assert stores == list(STORES)
         for keeper in keepers:

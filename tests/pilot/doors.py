@@ -4,20 +4,20 @@ import os
 import shutil
 import socket
 import ssl
+from collections.abc import Iterator
+from contextlib import contextmanager
 
 from bozintar import wire
-from bozintar.processes import HOST, Failed, command, free_port
+from bozintar.processes import HOST, PATIENCE, Failed, await_that, command, free_port
 
 from .field import APPLICATION, GATEWAYS
 from .parts import PILOT, Pilot, run
 from .stations import Station
 
-# how long a client waits that is due nothing, and one that is due an answer or the end, in seconds:
-# on a busy machine a door takes long to start
-SILENCE, LONG = 1.5, 20.0
-
 TLS, BROKER_TLS = "/etc/bozintar/tls", "/etc/mosquitto/certs"
 OTHERS = "AA555A00000000B9"
+# a client of MQTT 3.1.1, and the answer to one that is let in
+HELLO, LET_IN = bytes.fromhex("100d00044d5154540402003c000178"), bytes.fromhex("20020000")
 
 
 class Authority:
@@ -89,13 +89,13 @@ class Doors:
             text = text.replace(old, new)
         return self.pilot.file(name, text)
 
-    def open(self, *words: str) -> None:
+    def open(self, *words: str, after: str = "") -> None:
         """The door in front of the server."""
         files: tuple = (f"--ca={self.own.folder}/ca.crt", f"--crl={self.own.folder}/ca.crl")
         certificate, key = self.own.of("server")
         files += (f"--certificate={certificate}", f"--key={key}", *words)
         where = ("--listen", f"{HOST}:{self.port}", "--network", self.pilot.network)
-        self.door = self.pilot.own("secure/door", *where, *files, name="door")
+        self.door = self.pilot.own("secure/door", *where, *files, after=after)
         self.door.start("listens on")
 
     def open_client(self, to: int) -> int:
@@ -123,20 +123,30 @@ class Doors:
             self.broker = self.pilot.broker(more.read()).start("running")
         return port
 
-    def connect(
-        self, context: ssl.SSLContext, said: bytes, seconds: float = SILENCE
-    ) -> bytes | None:
-        """Connects and sends this; what comes within some seconds, or None for the end."""
+    def connect(self, context: ssl.SSLContext, said: bytes) -> bytes | None:
+        """Connects and sends this; what comes, or None for the end."""
         try:
-            with socket.create_connection((HOST, self.port), 10) as bare:
+            with socket.create_connection((HOST, self.port), PATIENCE) as bare:
                 with context.wrap_socket(bare, server_hostname="localhost") as client:
                     client.sendall(said)
-                    client.settimeout(seconds)
                     return client.recv(1000) or None
         except TimeoutError:
             return b""
         except OSError:
             return None
+
+    @contextmanager
+    def linked(
+        self, context: ssl.SSLContext, said: bytes, others: int = 0
+    ) -> Iterator[ssl.SSLSocket]:
+        """A gateway's link, once the server has it beside those of this many others."""
+        linked = lambda: int(self.pilot.program.status()["gateways"])
+        await_that("no more links", lambda: linked() == others)
+        with socket.create_connection((HOST, self.port), PATIENCE) as bare:
+            with context.wrap_socket(bare, server_hostname="localhost") as link:
+                link.sendall(said)
+                await_that("one more link", lambda: linked() == others + 1)
+                yield link
 
 
 def gateway(eui: str) -> bytes:
@@ -184,14 +194,12 @@ class Taker(Secured):
         super().connect(port)
 
 
-def refused_by_broker(port: int, context: ssl.SSLContext) -> bool:
-    """Whether the broker takes no word of this client."""
-    hello = bytes.fromhex("100d00044d5154540402003c000178")
+def refused_by_broker(port: int, context: ssl.SSLContext | None = None) -> bool:
+    """Whether the broker refuses a client, which comes without TLS if it has no context."""
     try:
-        with socket.create_connection((HOST, port), 10) as bare:
-            with context.wrap_socket(bare, server_hostname="localhost") as client:
-                client.sendall(hello)
-                client.settimeout(5)
-                return not client.recv(100)
+        with socket.create_connection((HOST, port), PATIENCE) as bare:
+            with context.wrap_socket(bare, server_hostname="localhost") if context else bare as own:
+                own.sendall(HELLO)
+                return own.recv(100) != LET_IN
     except OSError:
         return True

@@ -5,14 +5,14 @@ from typing import Any
 
 from bozintar.forwarders import Air, Forwarder
 from bozintar.meters import Meter
-from bozintar.processes import HOST, Process
+from bozintar.processes import HOST, PATIENCE, Process
 
 from .parts import Pilot
 
 GATEWAYS = ("00000000000000B1", "00000000000000B2", "AA555A00000000B3")
 APPLICATION = 3
 # how many meters join at a time, and how long one waits for its accept, in seconds
-AT_A_TIME, PATIENCE = 20, 8.0
+AT_A_TIME, AGAIN = 20, 8.0
 # forwarders' versions, and their clocks as they begin: one is about to wrap
 FORWARDERS = ((2, 90_000_000), (1, 2**32 - 3_000_000), (2, 77))
 
@@ -44,7 +44,8 @@ class Field:
     def link(self) -> None:
         """Waits until each gateway has its link."""
         due = [f"gateway {eui}: linked" for eui in GATEWAYS]
-        self.air.go_on(20, lambda: all(text in self.gateways.said() for text in due))
+        are_there = lambda: all(text in self.gateways.said() for text in due)
+        assert self.air.go_on(PATIENCE, are_there), "all gateways are linked"
 
     def send(
         self, frame: bytes, hz: int = 868_100_000, data_rate: int = 5, by: list | None = None
@@ -63,11 +64,11 @@ class Field:
             asking = [meter for meter in out if until[meter] > now]
             for meter in [meter for meter in out if until[meter] <= now][: AT_A_TIME - len(asking)]:
                 self.send(meter.join_request())
-                until[meter] = now + PATIENCE
+                until[meter] = now + AGAIN
             self.air.go_on(0.03)
         return True
 
-    def reading(self, meter: Meter, seconds: float = 10.0, **how: Any) -> bool:
+    def reading(self, meter: Meter, seconds: float = PATIENCE, **how: Any) -> bool:
         """A confirmed reading; whether it was acknowledged."""
         self.send(meter.reads(), **how)
         mark = meter.awaited

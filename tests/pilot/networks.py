@@ -6,7 +6,7 @@ import time
 from typing import Any
 
 from bozintar import oracle
-from bozintar.processes import HOST, Failed
+from bozintar.processes import HOST, PATIENCE, Failed
 
 
 # what bridges ask now and then, to find out what they have read; a network refuses it
@@ -29,7 +29,7 @@ class End:
         """Sends lines for an application."""
         self.socket.sendall(b"".join(map(oracle.line_message, lines)))
 
-    def hears(self, seconds: float = 10.0) -> bytes | None:
+    def hears(self, seconds: float = PATIENCE) -> bytes | None:
         """The next content; None for the end of what is sent, or "reset", or "nothing"."""
         last = time.monotonic() + seconds
         while not self.contents:
@@ -49,7 +49,7 @@ class End:
                     self.contents.append(content)
         return self.contents.pop(0)
 
-    def asked(self, seconds: float = 10.0) -> list[str]:
+    def asked(self, seconds: float = PATIENCE) -> list[str]:
         """The words of the next request."""
         content = self.hears(seconds) or b"the end"
         if content[0] != 3:
@@ -68,7 +68,7 @@ class Network:
         self.listener = socket.create_server((HOST, 0))
         self.at = f"{HOST}:{self.listener.getsockname()[1]}"
 
-    def link(self, seconds: float = 10.0) -> End:
+    def link(self, seconds: float = PATIENCE) -> End:
         """The next link, after its greeting."""
         self.listener.settimeout(seconds)
         end = End(self.listener.accept()[0])

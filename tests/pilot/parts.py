@@ -3,6 +3,8 @@
 import os
 import subprocess
 import sys
+import tempfile
+import time
 from importlib.machinery import SourceFileLoader
 from importlib.util import module_from_spec, spec_from_loader
 from pathlib import Path
@@ -13,6 +15,22 @@ from bozintar.processes import HOST, Failed, Process, Processes, command, free_p
 from bozintar.server import Program
 
 PILOT = Path(__file__).resolve().parents[2] / "pilot"
+# has a program run with something of it changed: by a line before it is read, and one after it
+CHANGED = """import os, sys
+path, before, after = sys.argv[1:4]
+sys.argv[:4] = [path]
+sys.path.insert(0, os.path.dirname(path))
+exec(before)
+from importlib import machinery, util
+loader = machinery.SourceFileLoader("program", path)
+program = sys.modules["program"] = util.module_from_spec(util.spec_from_loader("program", loader))
+loader.exec_module(program)
+exec(after)
+program.words.end_with(program.main)
+"""
+AFTER = 5  # the place of the lines after it among the words of such a process
+# has a copy that waits for a link not become too old
+WAITS = "from bozintar import lasting; lasting.LATEST = 600.0"
 
 
 def program_of_pilot(name: str) -> ModuleType:
@@ -32,16 +50,39 @@ def run(name: str, *words: Any, **how: Any) -> tuple[int, str, str]:
     return ended.returncode, ended.stdout, ended.stderr
 
 
+class Clock:
+    """A clock that a trial sets. Programs of pilot/ that its `line` changes read it as the time of
+    a file."""
+
+    def __init__(self) -> None:
+        self.file, self.now = tempfile.NamedTemporaryFile(), float(int(time.time()))
+        self.line = f"""import os; from bozintar import lasting; from bridges import gateways, hub
+clock = lambda *_: os.stat({self.file.name!r}).st_mtime
+hub.Hub.clock = gateways.Gateways.clock = lasting.Link.clock = clock"""
+        self.go_on(0)
+
+    def go_on(self, seconds: float) -> None:
+        """Time passes."""
+        self.now += seconds
+        os.utime(self.file.name, (self.now, self.now))
+
+
 class Parts(Processes):
     """Bridges and a broker."""
 
     def __init__(self, folder: str = "") -> None:
         super().__init__("pilot-", folder)
+        self.clock = Clock()
         self.broker_port, self.udp_port = free_port(), free_port()
 
-    def own(self, program: str, *words: Any, name: str = "") -> Process:
-        """A program of pilot/."""
-        return self.python(PILOT / program, *words, name=name)
+    def own(
+        self, program: str, *words: Any, name: str = "", before: str = "", after: str = ""
+    ) -> Process:
+        """A program of pilot/, which lines before and after it is read may change."""
+        if not (before or after):
+            return self.python(PILOT / program, *words, name=name)
+        changed = (sys.executable, "-c", CHANGED, PILOT / program, before, after)
+        return self.process(name or os.path.basename(program), *changed, *words)
 
     def broker(self, more: str = "") -> Process:
         """A broker of its own, which keeps what waits for clients that come back."""

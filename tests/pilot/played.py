@@ -2,31 +2,17 @@
 
 import base64
 import os
-import sys
 from typing import Any, TextIO
 
-from bozintar.processes import HOST, Process, await_that
+from bozintar.processes import HOST, Process, await_all
 
 from .field import APPLICATION, GATEWAYS
 from .networks import End, Network
-from .parts import PILOT, Parts
+from .parts import Parts
 from .whole import Dashboard
 
 FIRST, SECOND = "1112131415161718", "2122232425262728"
 EUI = bytes.fromhex(GATEWAYS[0])
-# has a program run with something of it changed: by a line before it is read, and one after it
-CHANGED = """import os, sys
-path, before, after = sys.argv[1:4]
-sys.argv[:4] = [path]
-sys.path.insert(0, os.path.dirname(path))
-exec(before)
-from importlib import machinery, util
-loader = machinery.SourceFileLoader("program", path)
-program = sys.modules["program"] = util.module_from_spec(util.spec_from_loader("program", loader))
-loader.exec_module(program)
-exec(after)
-program.words.end_with(program.main)
-"""
 # a name that is looked up for a minute
 SLOW = """import socket, time
 real = socket.getaddrinfo
@@ -50,8 +36,7 @@ class Bridge:
         self.file = parts.file("applications.prom")
         said: tuple = ("--network", network.at, "--broker", f"{HOST}:{parts.broker_port}")
         said += ("--application", APPLICATION, "--counts", self.file, *words)
-        program = [sys.executable, "-c", CHANGED, PILOT / "applications-mqtt", "", after]
-        self.part = parts.process("applications-mqtt", *program, *said)
+        self.part = parts.own("applications-mqtt", *said, after=after)
         self.network = network
         self.link = self.start()
 
@@ -63,7 +48,7 @@ class Bridge:
     def events(self, kind: str, device: str = FIRST, count: int = 1) -> list[dict]:
         """The events of a kind of a device, once there are this many."""
         found = lambda: self.dashboard.of(device, kind)
-        await_that(f"{count} {kind}", lambda: len(found()) >= count, 10)
+        await_all(f"{count} {kind}", lambda: len(found()) >= count)
         return found()
 
     def queued(self, device: str, text: str) -> str:
@@ -83,11 +68,10 @@ def rxpk(stamp: int, payload: bytes, snr: float) -> dict:
     return frame | {"data": base64.b64encode(payload).decode()}
 
 
-def gateways(parts: Parts, network: str, *words: str, before: str = "", **how: Any) -> Process:
+def gateways(parts: Parts, network: str, *words: str, ready: str, **how: str) -> Process:
     """The bridge of gateways by UDP."""
-    program = [sys.executable, "-c", CHANGED, PILOT / "gateways-udp", before, ""]
     said = ("--network", network, "--udp", f"{HOST}:{parts.udp_port}", *words)
-    return parts.process("gateways-udp", *program, *said).start(**how)
+    return parts.own("gateways-udp", *said, **how).start(ready)
 
 
 def nobody_reads() -> TextIO:

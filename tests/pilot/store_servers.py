@@ -42,11 +42,11 @@ class Servers(Parts):
         """The file of stores."""
         return self.file("stores", "".join(self.lines))
 
-    def router(self, *words: Any) -> tuple[str, int]:
+    def router(self, *words: Any, after: str = "") -> tuple[str, int]:
         """A router before these stores; its address."""
         at = (HOST, free_port())
         said = ("--listen", f"{HOST}:{at[1]}", "--stores", self.stores, *words)
-        self.own("router", *said, name=f"router-{at[1]}").start("listens on")
+        self.own("router", *said, name=f"router-{at[1]}", after=after).start("listens on")
         return at
 
     def clean(self) -> None:

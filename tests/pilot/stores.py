@@ -5,7 +5,7 @@ from contextlib import ExitStack
 from typing import Any
 
 import pytest
-from bozintar.processes import HOST, Failed
+from bozintar.processes import HOST, PATIENCE, Failed
 
 from .networks import End, Network
 from .parts import Parts
@@ -47,7 +47,7 @@ class Stores:
         os.replace(self.parts.file(f"{name}.new", text), self.parts.file(name))
         return self.parts.file(name)
 
-    def link(self, name: str, seconds: float = 10.0) -> End:
+    def link(self, name: str, seconds: float = PATIENCE) -> End:
         """The next link of a store."""
         return self.networks[name].link(seconds)
 

@@ -74,7 +74,7 @@ class Service:
 
     def await_known(self, device: str, counter: int) -> None:
         """Waits until the service has an uplink."""
-        await_that("it is known", lambda: self.row(device)["counter"] == counter, 20)
+        await_that("it is known", lambda: self.row(device)["counter"] == counter)
 
     def row(self, device: str) -> dict:
         """What is kept of a device."""
@@ -87,13 +87,13 @@ class Service:
     def asked(self, count: int, device: str = FIRST) -> list[tuple[str, str]]:
         """The commands for a device and their ids, once there are this many."""
         found = lambda: self.client.of(device, "mac")
-        await_that(f"{count} commands", lambda: len(found()) >= count, 20)
+        await_that(f"{count} commands", lambda: len(found()) >= count)
         return [(body["commands"], body["id"]) for body in found()]
 
     def beliefs(self, count: int, device: str = FIRST) -> list[dict]:
         """The last events about what is believed of a device, once there are this many."""
         found = lambda: self.client.of(device, "adr")
-        await_that(f"{count} events", lambda: len(found()) >= count, 20)
+        await_that(f"{count} events", lambda: len(found()) >= count)
         return found()
 
 
@@ -297,47 +297,50 @@ def test_status(service: Service) -> None:
     assert len(service.asked(2)) == 2
 
 
-async def uplinks_until_a_kill(adr: Any, parts: Parts) -> list[tuple[str, str]]:
+async def uplinks_until_a_kill(adr: Any, parts: Parts, snr: float) -> list[tuple[str, str, int]]:
     """Four uplinks, a kill in place of the request that follows, a start, and five more uplinks:
-    the commands that are published then, and for which device."""
+    the commands that are published then, for which device, and which try each is."""
     own = ("--broker", f"{HOST}:{parts.broker_port}", "--application", 3)
     words = (*own, "--db", parts.file("adr.db"))
     given = adr.options_of().parse_args([str(word) for word in words])
-    published: list[tuple[str, str]] = []
+    published: list[tuple[str, str, int]] = []
 
     def kill(*_request: Any) -> None:
         raise KeyboardInterrupt
 
     def note(name: str, _session: int, request: Any) -> None:
-        published.append((name, request.command().hex()))
+        published.append((name, request.command().hex().upper(), request.tries))
 
     for first, count, publish in ((0, 4, kill), (4, 5, note)):
         service = adr.Service(given, adr.Counts("pilot_adr", adr.COUNTED, None))
         service.publish = publish
         for counter in range(first, first + count):
-            body = json.dumps(event(counter, snr=-10.0)).encode()
+            body = json.dumps(event(counter, snr=snr)).encode()
             try:
                 service.take(f"application/3/device/{FIRST.lower()}/event/up", body)
             except KeyboardInterrupt:
                 break
+        else:
+            assert publish is note, "no request was published in the first life"
     return published
 
 
-def test_status_after_a_kill(parts: Parts) -> None:
-    """A service that is killed before it has published a request for the status asks for it again,
-    after four more uplinks without an answer."""
-    published = asyncio.run(uplinks_until_a_kill(program_of_pilot("adr"), parts))
-    assert published == [(FIRST, STATUS)]
+@pytest.mark.parametrize("snr, command, tries", ((-10.0, STATUS, 1), (9.0, TO_5, 2)))
+def test_request_after_a_kill(parts: Parts, snr: float, command: str, tries: int) -> None:
+    """A service that is killed before it has published a request asks again, after four more
+    uplinks without an answer. It knows that it has asked for a setting before."""
+    published = asyncio.run(uplinks_until_a_kill(program_of_pilot("adr"), parts, snr))
+    assert published == [(FIRST, command, tries)]
 
 
 def test_away_broker(service: Service) -> None:
     """A broker that is away for a while."""
     service.up(0, 3)
-    before = service.subscribed()
+    before, service.client.has_topic = service.subscribed(), False
     service.broker.end()
     service.broker.start("running")
-    await_that("it is back", lambda: service.subscribed() > before, 60)
-    await_that("the client is back", service.client.client.is_connected)
+    await_that("it is back", lambda: service.subscribed() > before)
+    await_that("the client is back", lambda: service.client.has_topic)
     service.up(3)
     assert service.asked(1) == [(TO_5, "adr-1-3")]
 

@@ -2,25 +2,29 @@
 
 import json
 import sqlite3
-import time
 from datetime import datetime
 from pathlib import Path
 
 import pytest
 from bozintar.lasting import Link
 from bozintar.links import Application
-from bozintar.processes import await_that
+from bozintar.processes import await_all, await_that
 from bozintar.words import Address
 from bridges.ages import ANSWER, LATE, MOST_LINES, ON_THE_WAY, PERIOD, REQUEST, Ages
 
 from .networks import Network
-from .parts import Parts, Pilot, program_of_pilot
-from .played import CHANGED, FIRST, Bridge, up
+from .parts import AFTER, Parts, Pilot, program_of_pilot
+from .played import FIRST, Bridge, up
 from .rows import table
 from .whole import Dashboard, Whole
 
 # so that what is late comes soon: seconds between two tries, on the way, and from when it is late
 SOON = "program.ages.PERIOD, program.ages.ON_THE_WAY, program.ages.LATE = 0.2, 0.5, 2.0"
+# has the bridge's lines judged by a clock that a trial sets
+BY_CLOCK = """from functools import partial
+program.ages.Ages, program.ages.KEPT = partial(program.ages.Ages, clock=clock), 0.0"""
+# readings each time, and in how many seconds they come: none is late even a period afterwards
+EACH, SOON_READ = 4, LATE - ON_THE_WAY - PERIOD
 OLD = """CREATE TABLE readings (device TEXT, session INTEGER, counter INTEGER,
     port INTEGER, payload BLOB, came TEXT, PRIMARY KEY (device, session, counter))"""
 
@@ -32,7 +36,7 @@ class Played(Link):
         super().__init__("played", Address("127.0.0.1", 1), b"")
         self.opened, self.said = 1, list[bytes]()
 
-    def say(self, message: bytes) -> bool:
+    def say(self, message: bytes, meant: float = 0.0) -> bool:
         """Notes a message."""
         self.said.append(message)
         return True
@@ -110,7 +114,7 @@ def test_answer_of_another_link() -> None:
     moments.link.opened += 1
     assert not moments.ages.take(ANSWER, True)
     assert moments.delay() is None
-    moments.asks()
+    moments.now = moments.asks() + LATE - ON_THE_WAY
     assert moments.delay() == 0
 
 
@@ -179,38 +183,53 @@ def seconds(time_of_event: str) -> float:
 def test_readings_that_waited(whole: Whole, dashboard: Dashboard) -> None:
     """Readings that came while the bridge was away have true bounds of their time, in the event and
     in the database; those that come while it is there have none."""
-    bridge, meter = whole.applications, whole.meters[0]
+    bridge, clock, ids = whole.applications, whole.pilot.clock, whole.pilot.file("ids.db")
+    meter, sent = whole.meters[0], list[float]()
     bridge.end()
-    program, path, *words = bridge.words
-    words += ["--ids", whole.pilot.file("ids.db")]
-    bridge.words = [program, "-c", CHANGED, path, "", SOON, *words]
-    sent: dict[int, float] = {}
-    away = range(4, 8)
-    for counter in range(12):
-        if counter in (0, away[-1] + 1):
-            bridge.start("devices are there")
-            time.sleep(1)  # it finds out what it has read
-        elif counter == away[0]:
+    bridge.words[AFTER] += f"\n{clock.line}\n{BY_CLOCK}"
+    bridge.words += ["--ids", ids]
+
+    def await_read() -> None:
+        clock.go_on(PERIOD)
+        with sqlite3.connect(f"file:{ids}?mode=ro", uri=True) as opened:
+            read = lambda: opened.execute("SELECT read FROM lines").fetchone()
+            await_that("the bridge knows that it has read all", lambda: read() == (clock.now,))
+
+    def send(pause: float) -> None:
+        for _ in range(EACH):
+            clock.go_on(pause)
+            sent.append(clock.now)
+            assert whole.reading(meter)
+
+    for is_first in (True, False):
+        bridge.start("devices are there")
+        await_read()
+        send(SOON_READ / EACH)
+        if is_first:
+            await_read()
+            last = clock.now
             bridge.end()
-            time.sleep(1)
-        sent[counter] = time.time()
-        assert whole.reading(meter)
-        time.sleep(0.5)
+            send(1000)
     due = lambda: len(dashboard.of(meter.dev_eui, "up")) == len(sent)
-    await_that("all readings came", lambda: due() and len(stored(whole.database)) == len(sent))
-    events = {body["fCnt"]: body for body in dashboard.of(meter.dev_eui, "up")}
-    rows = stored(whole.database)
-    for counter, moment in sent.items():
-        event = events[counter]
+    await_all("all readings came", lambda: due() and len(stored(whole.database)) == len(sent))
+    compare(dashboard.of(meter.dev_eui, "up"), stored(whole.database), sent, last)
+
+
+def compare(events: list[dict], rows: dict, sent: list[float], last: float) -> None:
+    """Compares the times of events and of stored readings with those when the readings were sent.
+    Until the last moment before the bridge was away it had read all."""
+    for event in events:
+        counter = event["fCnt"]
+        is_away = counter // EACH == 1
         assert rows[counter] == (event["time"], event.get("earliest"))
-        assert (counter in away) == ("delayed" in event), counter
-        earliest = seconds(event["earliest"]) if counter in away else moment
-        assert earliest <= moment <= seconds(event["time"])
-    assert seconds(events[away[0]]["earliest"]) > sent[away[0] - 2], "and not long before"
+        assert is_away == ("delayed" in event), counter
+        assert sent[counter] <= seconds(event["time"])
+        assert not is_away or seconds(event["earliest"]) == last - ON_THE_WAY < sent[counter]
 
 
 def test_database_of_an_earlier_version(folder: Path) -> None:
-    """A database without the column for bounds gets it, and keeps its readings."""
+    """A database without the column for bounds gets it, and keeps its readings. What is committed
+    is on the disk (SQLite's synchronous is FULL)."""
     file = folder / "readings.db"
     with sqlite3.connect(file) as before:
         before.execute(OLD)
@@ -220,6 +239,7 @@ def test_database_of_an_earlier_version(folder: Path) -> None:
     words = ["--db", str(file), "--broker", "127.0.0.1:1", "--application", "3"]
     for _ in range(2):
         made = readings.Readings(readings.options_of().parse_args(words))
+        assert made.database.execute("PRAGMA synchronous").fetchone() == (2,), "FULL"
         row = ("B", 1, 0, 7, b"", "now", "before")
         made.database.execute(readings.INSERT, row)
         made.database.commit()

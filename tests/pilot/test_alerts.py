@@ -6,6 +6,7 @@ import subprocess
 from pathlib import Path
 from typing import Any
 
+import pytest
 from bozintar.processes import command
 
 from .parts import PILOT
@@ -44,8 +45,8 @@ COUNTERS = {
         *("out_of_time", "wrong_events"),
     ),
     "pilot_router": ("closed_soon", "unlinked", "caught_up", "unknown_gateways", "faulted"),
-    "pilot_applications_mqtt": ("events_lost", "closed_soon", "wrong_commands"),
-    "pilot_readings": ("closed_soon",),
+    "pilot_applications_mqtt": ("events_lost", "closed_soon", "wrong_commands", "fallen"),
+    "pilot_readings": ("closed_soon", "differing"),
     "pilot_adr": ("closed_soon",),
     "pilot_door": ("too_many", "refused"),
 }
@@ -73,6 +74,7 @@ WELL = {
     "pilot_broker_dropped_messages_total": steady(7),
     "pilot_gateways_mqtt_broker_connected": steady(1),
     "pilot_applications_mqtt_broker_connected" + APPLICATION: steady(1),
+    "pilot_applications_mqtt_gone" + APPLICATION: steady(0),
     "pilot_readings_broker_connected" + APPLICATION: steady(1),
     "pilot_adr_broker_connected" + APPLICATION: steady(1),
     "pilot_readings_disk_free_bytes" + APPLICATION: steady(9e9),
@@ -141,6 +143,9 @@ WRONG: tuple = (
     ("WrongMessages", {"pilot_router_faulted_total": growing(2)}),
     ("WrongMessages", {"pilot_applications_mqtt_wrong_commands_total": growing(2)}),
     ("ApplicationMissing", {"lnsd_applications": steady(0)}),
+    ("StoreIsAnother", {"pilot_applications_mqtt_gone" + APPLICATION: steady(2)}),
+    ("StoreIsAnother", {"pilot_applications_mqtt_fallen_total": growing(1)}),
+    ("ReadingsDiffer", {"pilot_readings_differing_total": growing(1)}),
     ("LnsdNearlyFull", {"lnsd_devices": steady(4000)}),
     ("LnsdDiskIsSlow", {"lnsd_waiting": steady(2000)}),
     ("LnsdDiskIsSlow", {"lnsd_longest_sync_seconds": growing(0.01)}),
@@ -194,6 +199,7 @@ def test_each_alert() -> None:
     assert {name for name, _ in WRONG if name} == set(ALERTS)
 
 
+@pytest.mark.pages
 def test_what_an_alert_means() -> None:
     """The operator's page names each alert."""
     page = (DOCS / "OPERATING.md").read_text(encoding="utf-8")

@@ -17,7 +17,7 @@ PROVISION = f"provision {DEVICE} {JOIN_EUI} {KEY} 0 1"
 # requests, and what the network answers, by docs/FORMATS.md
 ANSWERS = [
     (PROVISION, f"provisioned {DEVICE} 7"),
-    (PROVISION, "refused 16"),
+    (PROVISION.replace(DEVICE, "70B3D57ED0000002"), "refused 16"),
     (f"queue {DEVICE} 41 7 c C0FFEE", f"queued {DEVICE} 41"),
     (f"queue {DEVICE} 41 7 u -", "refused 12"),
     (f"mac {DEVICE} 0330FF0001", f"macqueued {DEVICE} 0330FF0001"),
@@ -40,7 +40,7 @@ class Asked:
     def connect(self) -> socket.socket:
         """One more client."""
         made = socket.socket(socket.AF_UNIX)
-        made.settimeout(20)
+        made.settimeout(60)
         made.connect(self.path)
         return made
 

@@ -12,7 +12,7 @@ from typing import TextIO
 
 import pytest
 from bozintar.forwarders import Air, Forwarder
-from bozintar.processes import HOST, Process, await_that
+from bozintar.processes import HOST, PATIENCE, Process, await_that
 
 from .field import GATEWAYS, counts_in
 from .networks import End, Network
@@ -28,7 +28,7 @@ async def busy():
     for _ in range(2000):
         asyncio.get_running_loop().call_soon_threadsafe(int)
     os.kill(os.getpid(), signal.SIGTERM)
-    await asyncio.sleep(3)
+    await asyncio.sleep(60)
     print("goes on")
 asyncio.run(until_told(busy()))
 """
@@ -170,16 +170,17 @@ def test_answer_with_a_word_more(bridge: Bridge) -> None:
 
 
 def test_unanswered_item(bridge: Bridge) -> None:
-    """A link ends before an answer: events of the item have its id if it waits all the same."""
+    """An item whose link ended before its answer may be asked for again. If it waits all the same,
+    its events have its id."""
     bridge.dashboard.down(FIRST, fPort=7, data="AA==", id="z")
     tag = bridge.link.asked()[2]
     bridge.link.close()
     bridge.link = bridge.network.link()
     assert bridge.events("log")[-1]["code"] == "UNANSWERED"
-    bridge.link.tell(f"queued {FIRST} {tag}", f"acked {FIRST} {tag}")
-    for kind in ("queued", "ack"):
-        assert bridge.events(kind)[-1]["queueItemId"] == "z", f"whose {kind} it is"
     assert bridge.queued(FIRST, "z") != tag, "it is asked for again"
+    bridge.link.tell(f"queued {FIRST} {tag}", f"acked {FIRST} {tag}")
+    for kind, count in (("queued", 2), ("ack", 1)):
+        assert bridge.events(kind, count=count)[-1]["queueItemId"] == "z", f"whose {kind} it is"
 
 
 def test_answer_for_another_item(bridge: Bridge) -> None:
@@ -242,20 +243,23 @@ def test_commands_at_the_end(bridge: Bridge) -> None:
 
 def test_broker_that_hangs(parts: Parts, network: Network) -> None:
     """A broker that takes nothing: a command waits for its answer, and the end is cut short."""
-    after = "program.PATIENCE, program.LEAVING = 0.5, 60"
-    bridge = Bridge(parts, network, "--room", "5", after=after)
+    after = "program.PATIENCE, program.LEAVING, counts.EVERY = 0.5, 600, 0.1"
+    bridge = Bridge(parts, network, "--room", "5", after=f"from bozintar import counts; {after}")
+    waiting = lambda: counts_in(bridge.file)["applications_mqtt_waiting"]
     with bridge.dashboard:
         bridge.dashboard.down(FIRST, fPort=7, data="AA==", id="x")
         tag = bridge.link.asked()[2]
         bridge.broker.send_signal(signal.SIGSTOP)
         bridge.link.tell(*map(up, range(50)), f"queued {FIRST} {tag}")
+        await_that("five wait, and the others in the link", lambda: waiting() == 5)
         assert bridge.link.hears(1.5) == b"nothing", "its link meanwhile"
         bridge.broker.send_signal(signal.SIGCONT)
         bridge.events("queued")
         assert len(bridge.events("up", count=50)) == 50
+        await_that("the broker has them", lambda: waiting() == 0)
         bridge.broker.send_signal(signal.SIGSTOP)
         bridge.link.tell(*map(up, range(50, 53)))
-        time.sleep(0.3)
+        await_that("the bridge has read them", lambda: waiting() == 3)
         bridge.part.send_signal(signal.SIGTERM)
         assert bridge.link.hears() is None, "the end of its link"
         bridge.link.close()
@@ -289,7 +293,7 @@ def more_words() -> tuple[str, ...]:
 def part(parts: Parts, network: Network, more_words: tuple[str, ...]) -> Process:
     """The bridge of gateways by UDP."""
     words = ("--gateway", GATEWAYS[0], "--counts", parts.file("gateways.prom"), *more_words)
-    return gateways(parts, network.at, *words, ready="listens on")
+    return gateways(parts, network.at, *words, after=parts.clock.line, ready="listens on")
 
 
 @pytest.fixture
@@ -354,8 +358,8 @@ def test_second_window(forwarder: Forwarder, link: End) -> None:
         forwarder.told.clear()
         forwarder.errors.append(error)
         link.say(downlink_after(link))
-        air.go_on(5, lambda: len(forwarder.told) == windows)
-        air.go_on(0.15)
+        air.go_on(PATIENCE, lambda: len(forwarder.told) == windows)
+        forwarder.await_read()
         powers = [told["powe"] for told in forwarder.told]
         assert powers == [14, 27][:windows], f"windows after {error}"
 
@@ -367,9 +371,25 @@ def test_second_window_is_the_last(
     forwarder.hears(bytes(12))
     forwarder.errors.extend(["TOO_LATE"] * 10)
     link.say(downlink_after(link))
-    Air([forwarder], []).go_on(0.5)
+    Air([forwarder], []).go_on(PATIENCE, lambda: len(forwarder.told) == 2)
+    forwarder.await_read()
     assert len(forwarder.told) == 2
     assert counted(parts, part, "in_rx2", "not_sent", "sent") == [1, 1, 0]
+
+
+def test_answer_that_comes_twice(
+    forwarder: Forwarder, link: End, parts: Parts, part: Process
+) -> None:
+    """If a TX_ACK comes twice, RX2 is tried once."""
+    forwarder.hears(bytes(12))
+    link.say(downlink_after(link))
+    forwarder.down.settimeout(PATIENCE)
+    while (data := forwarder.down.recv(65536))[3] != 3:
+        pass
+    for _ in range(2):
+        forwarder.say(5, b'{"txpk_ack":{"error":"TOO_LATE"}}', int.from_bytes(data[1:3], "big"))
+    forwarder.await_read()
+    assert counted(parts, part, "in_rx2", "unasked_acks") == [1, 1]
 
 
 def test_many_downlinks_at_once(forwarder: Forwarder, link: End) -> None:
@@ -378,7 +398,7 @@ def test_many_downlinks_at_once(forwarder: Forwarder, link: End) -> None:
     for _ in range(MANY):
         forwarder.hears(bytes(12))
         link.say(downlink_after(link))
-    forwarder.down.settimeout(10)
+    forwarder.down.settimeout(PATIENCE)
     while len(tokens) < MANY:
         data = forwarder.down.recv(65536)
         if data[3] == 3:
@@ -389,33 +409,33 @@ def test_many_downlinks_at_once(forwarder: Forwarder, link: End) -> None:
 def test_downlink_of_another_clock(
     forwarder: Forwarder, link: End, parts: Parts, part: Process
 ) -> None:
-    """A downlink whose gateway has begun its clock anew is sent at no moment of the new one."""
+    """A downlink whose gateway has begun its clock anew is sent at no moment of the new one, and
+    the next one is sent."""
     forwarder.hears(bytes(12))
     downlink = downlink_after(link)
     forwarder.restart(begins=2_000_000_000)
     forwarder.look()
     forwarder.hears(bytes(12))
-    link.hears()
-    link.say(downlink)
-    Air([forwarder], []).go_on(0.5)
-    assert forwarder.told == []
+    link.say(downlink, downlink_after(link))
+    Air([forwarder], []).go_on(PATIENCE, lambda: forwarder.told)
+    forwarder.await_read()
+    assert [told["tmst"] for told in forwarder.told] == [forwarder.stamp + 5_000_000]
     assert counted(parts, part, "clocks_begun_anew", "out_of_time") == [1, 1]
 
 
-@pytest.mark.parametrize("more_words", [("--silent", "1")])
 def test_silent_gateway(
     forwarder: Forwarder, link: End, network: Network, parts: Parts, part: Process
 ) -> None:
     """The address of a gateway that is silent isn't used any more: once it hears a frame, it has to
     ask for downlinks first."""
+    parts.clock.go_on(121)  # a gateway is silent after 120 s
     await_that("it is silent", lambda: "is silent" in part.said())
     assert link.hears() is None
     forwarder.hears(bytes(12))
     later = network.link()
     later.say(downlink_after(later))
-    air = Air([forwarder], [])
-    forwarder.next_pull = time.monotonic() + 60
-    air.go_on(0.5)
+    await_that("a downlink is lost", lambda: part.has_said("hasn't asked for downlinks"))
+    forwarder.await_read()
     assert forwarder.told == []
     assert counted(parts, part, "not_pulled") == [1]
 
@@ -474,5 +494,5 @@ def test_end_without_a_broker(parts: Parts) -> None:
     """Neither the network nor a broker is there."""
     words = ("--network", "127.0.0.1:1", "--broker", "127.0.0.1:1", "--application", "3")
     part = parts.own("applications-mqtt", *words).start("no link to")
-    await_that("it says so", lambda: part.has_said("no broker at"), 10)
+    await_that("it says so", lambda: part.has_said("no broker at"))
     assert part.end() == 0

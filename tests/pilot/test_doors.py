@@ -8,7 +8,7 @@ import ssl
 import subprocess
 import time
 from collections.abc import Callable, Iterator
-from contextlib import ExitStack, suppress
+from contextlib import suppress
 from pathlib import Path
 from typing import Any
 
@@ -17,13 +17,11 @@ from bozintar import wire
 from bozintar.forwarders import Air, Forwarder
 from bozintar.links import Application
 from bozintar.meters import Meter
-from bozintar.processes import HOST, await_that
+from bozintar.processes import HOST, PATIENCE, await_that
 from console.access import secure
 
 from .doors import (
-    LONG,
     OTHERS,
-    SILENCE,
     Authority,
     Certificates,
     Doors,
@@ -41,10 +39,10 @@ from .whole import Dashboard
 
 PLACE = GATEWAYS[0].lower()
 # how long a client may take to greet, and how long one takes for a byte here, in seconds
-PATIENCE, PACE = 10.0, 1.6
+GREETING, PACE = 10.0, 9.0
 REFUSED = wire.framed(b"\x13refused 51")
 # a client; the authority of its certificate, and the certificate; what it says; what comes, which
-# is None if it isn't let in; and what the door logs then
+# is None if it isn't let in, and nothing if it is a gateway; and what the door logs then
 GREETS = "of 127.0.0.1 isn't let in: it greets as "
 AT_THE_DOOR = (
     ("its own EUI", "own", PLACE, gateway(GATEWAYS[0]), b"", ""),
@@ -150,17 +148,18 @@ def test_name_within_another_field(doors: Doors) -> None:
     """A certificate in whose organisation an application's name stands isn't that application."""
     certificate_for(doors.own, "evil", "/O=Evil, CN=application-3, Ltd/CN=x")
     doors.open()
-    assert doors.connect(doors.own.context("evil"), application(3), LONG) is None
+    assert doors.connect(doors.own.context("evil"), application(3)) is None
     assert f"x {GREETS}application-3" in doors.door.said()
 
 
-@pytest.mark.timed
 def test_slow_greeting(doors: Doors) -> None:
     """A client that says a byte of its greeting now and then is closed ten seconds after it
-    connected, and nothing of it is passed on."""
+    connected, and nothing of it is passed on. A link that is idle meanwhile stays."""
     doors.open()
-    begun, context = time.monotonic(), doors.own.context(PLACE)
-    with socket.create_connection((HOST, doors.port), 10) as bare:
+    idle, context = doors.own.context(OTHERS.lower()), doors.own.context(PLACE)
+    with doors.linked(idle, gateway(OTHERS)), socket.socket() as bare:
+        begun = time.monotonic()
+        bare.connect((HOST, doors.port))
         with context.wrap_socket(bare, server_hostname="localhost") as client:
             client.settimeout(PACE)
             for byte in gateway(GATEWAYS[0])[:-1]:
@@ -172,11 +171,12 @@ def test_slow_greeting(doors: Doors) -> None:
                     pass
                 except OSError:
                     break
-    assert PATIENCE - 1 < time.monotonic() - begun < PATIENCE + PACE
-    assert f"{PLACE} {GATEWAYS[1].lower()} of {HOST} isn't let in: it doesn't greet" in (
-        doors.door.said()
-    )
-    assert doors.pilot.program.status()["gateways"] == "0"
+            else:
+                raise AssertionError("it isn't closed before its last byte but one")
+        assert time.monotonic() - begun > GREETING - 1
+        text = f"{PLACE} {GATEWAYS[1].lower()} of {HOST} isn't let in: it doesn't greet"
+        assert text in doors.door.said()
+        assert doors.pilot.program.status()["gateways"] == "1"
 
 
 @pytest.fixture(scope="module")
@@ -200,9 +200,11 @@ def test_at_the_door(
 ) -> None:
     """Who is let in, and who isn't."""
     context = opened.own.context(certificate, getattr(opened, authority))
-    seconds = SILENCE if due == b"" else LONG
-    assert opened.connect(context, said, seconds) == due
-    await_that("the door logs it", lambda: opened.door.has_said(logged), LONG)
+    if due == b"":
+        with opened.linked(context, said):
+            return
+    assert opened.connect(context, said) == due
+    await_that("the door logs it", lambda: opened.door.has_said(logged))
 
 
 def test_revoked_certificate(pilot: Pilot) -> None:
@@ -212,22 +214,18 @@ def test_revoked_certificate(pilot: Pilot) -> None:
     doors.open()
     gateways = lambda: pilot.program.status()["gateways"]
     old, other = doors.own.context(PLACE), doors.own.context(OTHERS.lower())
-    with ExitStack() as links:
-        for context, eui in ((old, GATEWAYS[0]), (other, OTHERS)):
-            bare = links.enter_context(socket.create_connection((HOST, doors.port), 10))
-            link = context.wrap_socket(bare, server_hostname="localhost")
-            links.enter_context(link).sendall(gateway(eui))
-        await_that("both have links", lambda: gateways() == "2")
+    with doors.linked(old, gateway(GATEWAYS[0])), doors.linked(other, gateway(OTHERS), 1) as link:
         doors.own.make("revoke", PLACE)
         doors.door.send_signal(signal.SIGHUP)
         await_that("one link is closed", lambda: gateways() == "1")
         text = f"{PLACE} {GATEWAYS[1].lower()} of {HOST}: its certificate is revoked"
         assert text in doors.door.said()
-        assert doors.connect(old, gateway(GATEWAYS[0]), LONG) is None
+        assert doors.connect(old, gateway(GATEWAYS[0])) is None
         await_that("that is logged", lambda: doors.door.has_said("certificate revoked"))
         doors.own.make("gateway", *GATEWAYS[:2])
-        doors.connect(doors.own.context(PLACE), gateway(GATEWAYS[0]))
-        link.settimeout(SILENCE)
+        with doors.linked(doors.own.context(PLACE), gateway(GATEWAYS[0]), 1):
+            pass
+        link.settimeout(0.1)
         with pytest.raises(TimeoutError):
             link.recv(1)  # the other one's link is open still
     doors.open_broker()
@@ -287,7 +285,8 @@ def test_list_that_cant_be_read(pilot: Pilot) -> None:
     doors.door.send_signal(signal.SIGHUP)
     said = "the files can't be used, and all stays as it was"
     await_that("the door logs it", lambda: doors.door.has_said(said))
-    assert doors.connect(doors.own.context(PLACE), gateway(GATEWAYS[0])) == b""
+    with doors.linked(doors.own.context(PLACE), gateway(GATEWAYS[0])):
+        pass
     assert doors.door.end() == 0
     doors.door.start()
     assert doors.door.ended() == 1
@@ -299,10 +298,10 @@ def test_no_server(doors: Doors) -> None:
     doors.open()
     doors.pilot.program.kill()
     context = doors.own.context("application-3")
-    assert doors.connect(context, application(3), LONG) is None
+    assert doors.connect(context, application(3)) is None
     assert "isn't let in: lnsd can't be reached" in doors.door.said()
     doors.pilot.program.run_on(96, port=doors.pilot.address[1])
-    assert doors.connect(context, application(3), LONG) == REFUSED
+    assert doors.connect(context, application(3)) == REFUSED
 
 
 def test_end_of_a_client(doors: Doors) -> None:
@@ -311,8 +310,8 @@ def test_end_of_a_client(doors: Doors) -> None:
     context = doors.own.context("application-3")
     came, left = ssl.MemoryBIO(), ssl.MemoryBIO()
     tls = context.wrap_bio(came, left, server_hostname="localhost")
-    with socket.create_connection((HOST, doors.port), 10) as bare:
-        bare.settimeout(LONG)
+    with socket.create_connection((HOST, doors.port), PATIENCE) as bare:
+        bare.settimeout(PATIENCE)
 
         def done(step: Callable[[], Any]) -> Any:
             while True:
@@ -337,9 +336,8 @@ def test_end_of_a_client(doors: Doors) -> None:
 
 def test_client_without_tls(opened: Doors) -> None:
     """A client without TLS is closed."""
-    with socket.create_connection((HOST, opened.port), 10) as plain:
+    with socket.create_connection((HOST, opened.port), PATIENCE) as plain:
         plain.sendall(gateway(GATEWAYS[0]))
-        plain.settimeout(5)
         assert ended(plain)
 
 
@@ -357,13 +355,13 @@ def test_gateways_through_stunnel(doors: Doors) -> None:
     reader.asks("provision " + " ".join(meter.row().split(",")))
     reader.hears()
     due = f"gateway {OTHERS}: no link"
-    is_out = air.go_on(20, lambda: bridge.has_said(due))
+    is_out = air.go_on(PATIENCE, lambda: bridge.has_said(due))
     assert is_out, "a gateway that isn't the certificate's"
     gateways[0].hears(meter.join_request())
-    assert air.go_on(20, lambda: meter.keys is not None), "a meter joins"
+    assert air.go_on(PATIENCE, lambda: meter.keys is not None), "a meter joins"
     gateways[0].hears(meter.reads())
     mark = meter.awaited
-    is_there = air.go_on(10, lambda: mark in meter.acknowledged)
+    is_there = air.go_on(PATIENCE, lambda: mark in meter.acknowledged)
     assert is_there, "a reading is acknowledged"
     assert reader.hears().startswith(f"up {meter.dev_eui} "), "its line came"
     bridge.end()
@@ -402,7 +400,7 @@ def test_events_of_another_gateway(broker: Doors) -> None:
     with Dashboard(broker.pilot.broker_port, topic) as dashboard, station(broker) as own:
         for eui in (OTHERS.lower(), PLACE):
             topic = f"eu868/gateway/{eui}/event/stats"
-            own.client.publish(topic, b"{}", 1).wait_for_publish(10)
+            own.client.publish(topic, b"{}", 1).wait_for_publish(PATIENCE)
         await_that("its own event", lambda: dashboard.events)
         assert [device for device, _, _ in dashboard.events] == [GATEWAYS[0]], "whose events came"
 
@@ -412,13 +410,14 @@ def test_commands_of_another_gateway(broker: Doors) -> None:
     heard: list[str] = []
     with Dashboard(broker.pilot.broker_port) as dashboard, station(broker) as own:
         own.client.message_callback_add("#", lambda *words: heard.append(words[2].topic))
-        own.client.subscribe("#", 1)
-        time.sleep(0.3)
+        granted: list[int] = []
+        own.client.on_subscribe = lambda *words: granted.append(words[2])
+        _, number = own.client.subscribe("#", 1)
+        await_that("it is subscribed", lambda: number in granted)
+        dashboard.say(f"application/{APPLICATION}/device/{OTHERS.lower()}/event/up", b"{}")
         for eui in (OTHERS.lower(), PLACE):
             dashboard.say(f"eu868/gateway/{eui}/command/other", b"{}")
-        dashboard.say(f"application/{APPLICATION}/device/{OTHERS.lower()}/event/up", b"{}")
-        await_that("its own command", lambda: heard)
-        time.sleep(0.3)
+        await_that("its own command, which is the last one", lambda: heard)
     assert set(heard) == {f"eu868/gateway/{PLACE}/command/other"}
 
 
@@ -479,11 +478,11 @@ def test_bridges_with_certificates(doors: Doors) -> None:
     started("readings", name, *application, "--db", database, ready="connected to")
     with Secured(GATEWAYS[0], port, doors.own, PLACE) as gateway_of_it:
         air = Air([gateway_of_it], [meter])
-        air.go_on(20, lambda: pilot.program.status()["gateways"] == "1")
+        air.go_on(PATIENCE, lambda: pilot.program.status()["gateways"] == "1")
         gateway_of_it.hears(meter.join_request())
-        assert air.go_on(20, lambda: meter.keys is not None), "a meter joins by it"
+        assert air.go_on(PATIENCE, lambda: meter.keys is not None), "a meter joins by it"
         gateway_of_it.hears(meter.reads())
         mark = meter.awaited
-        is_there = air.go_on(10, lambda: mark in meter.acknowledged)
+        is_there = air.go_on(PATIENCE, lambda: mark in meter.acknowledged)
         assert is_there, "its reading is acknowledged"
         await_that("its reading is stored", lambda: stored_in(database) == 1)

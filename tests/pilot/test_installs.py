@@ -1,19 +1,13 @@
 """What the package takes from a clone, into a folder of the trial's own: files that git knows
-alone, with modes that don't depend on the clone's. And the store that its unit makes at first."""
+alone, with modes that don't depend on the clone's."""
 
-import os
-import re
-import shlex
 import shutil
 import stat
 import subprocess
-from collections.abc import Iterator
 from pathlib import Path
-from typing import Any
 
 import pytest
 from bozintar.processes import Failed
-from bozintar.server import Ended, Program
 from making import tree
 from making.manual import Edition
 from making.tree import DOC, LIB, UNITS_TO, Tree
@@ -44,9 +38,6 @@ LINKS = [
 ]
 # what is for a clone alone
 OF_THE_CLONE = {Path("pilot/install"), Path("pilot/speed")}
-# the most slots of a store, and its length then, by docs/OPERATING.md
-MOST_SLOTS, MOST_BYTES = 4096, 37_363_804
-CONF = "/etc/bozintar/lnsd.conf"
 
 
 class Clone:
@@ -123,6 +114,7 @@ def is_packed(top: Path, name: Path) -> bool:
     return name.parts[0] in ("pilot", "python") and is_python and name not in OF_THE_CLONE
 
 
+@pytest.mark.pages
 def test_what_is_packed(packed: Clone) -> None:
     """The programs, their modules, units and documents come; what lies beside them doesn't."""
     assert packed.came(LIB) == {name for name in packed.own if is_packed(packed.top, name)}
@@ -136,16 +128,20 @@ def test_what_is_packed(packed: Clone) -> None:
     assert {str(name) for name in packed.came(DOC)} >= {"README.Debian", "examples/mosquitto.acl"}
 
 
+@pytest.mark.pages
 def test_nothing_private(packed: Clone) -> None:
     """No file that came is a link, or has what somebody left in the clone."""
+    assert packed.came("")
     for name in sorted(packed.came("")):
         file = packed.to / name
         assert not file.is_symlink(), name
         assert SECRET not in file.read_text(encoding="utf-8"), name
 
 
+@pytest.mark.pages
 def test_modes(packed: Clone) -> None:
     """Programs can be run, and all users can read all files; postinst closes /etc/bozintar."""
+    assert packed.came("")
     for name in sorted(packed.came("")):
         file = packed.to / name
         due = 0o755 if is_program(file) else 0o644
@@ -162,80 +158,3 @@ def test_link_in_place(clone: Clone, name: str) -> None:
     place.symlink_to(aside)
     with pytest.raises(Failed, match="symbolic link"):
         clone.pack()
-
-
-def settings(*changes: tuple[str, str]) -> dict[str, str]:
-    """The settings of the package for the server, with changes as an operator makes them."""
-    text = (TOP / "packaging/files/lnsd.conf").read_text(encoding="utf-8")
-    for old, new in changes:
-        assert f"\n{old}\n" in text
-        text = text.replace(old, new)
-    return dict(re.findall(r"^([A-Z]+)=(.*)$", text, re.MULTILINE))
-
-
-def first_start(server: Program, given: dict[str, str], **how: Any) -> Ended:
-    """Does what the unit of lnsd does before it starts the server."""
-    text = (TOP / "packaging/systemd/lnsd.service").read_text(encoding="utf-8")
-    found = re.search(r"^ExecStartPre=((?:.*\\\n)*.*)", text, re.MULTILINE)
-    assert found
-    line = found[1].replace("\\\n", "").replace("/usr/bin/lnsd", server.path)
-    words = shlex.split(line.replace("%S/lnsd/store", server.store))
-    how |= {"capture_output": True, "text": True, "check": False}
-    ended = subprocess.run(words, env={"PATH": "/usr/bin:/bin", **given}, **how)
-    return ended.returncode, ended.stdout, ended.stderr
-
-
-@pytest.fixture
-def server(program: str) -> Iterator[Program]:
-    """A server without a store."""
-    with Program(program) as made:
-        yield made
-
-
-def test_first_store(server: Program) -> None:
-    """Once NETID is set, the unit makes a store of 4,096 slots, and leaves one that is there."""
-    given = settings(("#NETID=000000", "NETID=00002A"))
-    assert first_start(server, given) == (0, "", "")
-    assert first_start(server, given) == (0, "", "")
-    size = os.stat(server.store).st_size
-    server.run_on()
-    assert (int(server.status()["slots"]), size) == (MOST_SLOTS, MOST_BYTES)
-    assert server.stop()[0] == 0
-    assert first_start(server, settings()) == (0, "", ""), "a store needs no NetID"
-
-
-def test_no_net_id(server: Program) -> None:
-    """The settings as they are installed have no NetID: the unit names the file, makes no store,
-    and isn't started again, since lnsd run then ends with status 1."""
-    said = f"NETID is not set: set it in {CONF}\n"
-    assert first_start(server, settings()) == (0, "", said)
-    assert not os.path.exists(server.store)
-    assert server.run("run", server.store, "--listen", "127.0.0.1:0")[0] == 1
-
-
-@pytest.mark.parametrize(
-    "net_id, slots", (("2A", "4096"), ("00002A", "4097"), ("00002A", "")), ids=str
-)
-def test_wrong_settings(server: Program, net_id: str, slots: str) -> None:
-    """Wrong settings make no store, and the unit isn't started again."""
-    status, _, said = first_start(server, {"NETID": net_id, "SLOTS": slots})
-    assert (status, said.startswith("error: ")) == (0, True), said
-    assert not os.path.exists(server.store)
-
-
-def test_store_that_cannot_be_made(server: Program) -> None:
-    """If the store can't be made, the unit is started again."""
-    os.rmdir(server.folder)
-    given = settings(("#NETID=000000", "NETID=00002A"))
-    assert first_start(server, given) == (1, "", "lnsd: file\n")
-
-
-def test_store_of_another_user(server: Program) -> None:
-    """If the store belongs to another user, as after a restore by root, the unit prints what to
-    do."""
-    assert server.format() == (0, "", "")
-    os.chmod(server.folder, 0o755)
-    os.chmod(server.store, 0o400)
-    how = {} if os.getuid() else {"user": "nobody"}
-    said = f"{server.store} belongs to another user: chown lnsd: {server.store}\n"
-    assert first_start(server, settings(), **how) == (0, "", said)

@@ -35,7 +35,7 @@ class Slow:
     """A link's network that doesn't read while `size` bytes wait for it."""
 
     def __init__(self) -> None:
-        self.size, self.said, self.transport = 0, b"", self
+        self.size, self.said, self.transport, self.has_ended = 0, b"", self, False
 
     def get_write_buffer_size(self) -> int:
         """As of a transport."""
@@ -43,7 +43,7 @@ class Slow:
 
     def is_closing(self) -> bool:
         """As of a transport."""
-        return False
+        return self.has_ended
 
     def write(self, said: bytes) -> None:
         """As of a transport."""
@@ -65,13 +65,16 @@ def link(slow: Any) -> Link:
 
 
 def test_slow_network(link: Link, slow: Any) -> None:
-    """What is heard while the network doesn't read is handed in once it does, and before others."""
+    """What is heard while the network doesn't read is handed in once it does, and before others.
+    Nothing is sent after the link's end."""
     for size, said in ((0, b"1"), (10**6, b"2"), (10**6, b"3"), (0, b"4")):
         slow.size = size
         is_now = link.say_soon(wire.framed(said))
         assert is_now == (size == 0), f"{said!r} is sent now"
     assert slow.said == b"\0\x011\0\x012\0\x013\0\x014", "all that was said"
     assert link.caught_up == 2, "and how much of it later"
+    link.is_ending = True
+    assert not link.say(b"late")
 
 
 @pytest.mark.parametrize("pause, is_said", ((0.0, True), (1.9, True), (2.1, False), (1800, False)))
@@ -80,13 +83,26 @@ def test_old_frame(
 ) -> None:
     """What was heard two seconds ago is of no use any more."""
     now = 1000.0
-    monkeypatch.setattr(lasting, "time", SimpleNamespace(monotonic=lambda: now))
+    monkeypatch.setattr(link, "clock", lambda: now)
     slow.size = 10**6
     assert not link.say_soon(b"old")
     now, slow.size = now + pause, 0
     assert link.say_soon(b"new")
     assert slow.said == (b"oldnew" if is_said else b"new")
     assert link.caught_up == is_said
+
+
+def test_judge(link: Link, slow: Any, monkeypatch: pytest.MonkeyPatch) -> None:
+    """What isn't let through isn't sent, and doesn't wait. What waited is judged when it is sent,
+    with the moment when it was meant to be."""
+    now, judged = 0.0, dict[bytes, tuple]()
+    monkeypatch.setattr(link, "clock", lambda: now)
+    link.judge = lambda said, *of: judged.setdefault(said, of) is of and said != b"2"
+    for now, slow.size, said in (5, 0, b"1"), (6, 9**9, b"2"), (7, 9**9, b"3"), (7.5, 0, b"4"):
+        link.say_soon(said)
+    assert slow.said == b"134"
+    due = {b"1": (5, 5), b"2": (6, 7.5), b"3": (7, 7.5), b"4": (7.5, 7.5)}
+    assert judged == {said: (*row, slow) for said, row in due.items()}
 
 
 def test_most_frames(link: Link, slow: Any) -> None:

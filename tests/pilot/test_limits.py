@@ -13,7 +13,7 @@ from pathlib import Path
 
 import pytest
 from bozintar.mqtt import client
-from bozintar.processes import HOST, await_that
+from bozintar.processes import HOST, PATIENCE, await_that
 
 from .doors import Doors, application, ended, gateway, refused_by_broker
 from .field import APPLICATION, GATEWAYS
@@ -23,21 +23,17 @@ pytestmark = [pytest.mark.timed]
 OF_A_UNIT, OF_A_TRIAL = 1024, 4096
 # silent connections: more than the door has places for, and than a unit has descriptors
 AT_THE_DOOR, AT_THE_BROKER = 600, 1100
-# how long they may keep another client out at the door, in seconds, and what they may take of
-# memory, in KiB
-AT_ONCE, MOST_MEMORY = 3.0, 65_536
-# how long a client may be kept out by them, in seconds: the ten of a handshake, and a few more
-SOON = 20.0
-# how long an idle link has to last, in seconds
-IDLE = 12.0
+# what they may take of memory at the door, in KiB
+MOST_MEMORY = 65_536
+# lets none of them end by itself
+LASTING = "program.PATIENCE = 600.0"
 DEVICE = "1112131415161718"
 TOPIC = f"application/{APPLICATION}/device/{DEVICE.lower()}"
 # the settings of pilot/mosquitto.conf: a payload, what waits for a client, seconds between writes
 LONGEST, WAITING, EVERY = 65_536, 80_000_000, 30
-# for how long the broker doesn't write after its start, in seconds
-LONG = 4.0
-# a client of MQTT 3.1.1, and the answer to one that is let in
-HELLO, LET_IN = bytes.fromhex("100d00044d5154540402003c000178"), bytes.fromhex("20020000")
+# for how long the broker doesn't write after its start, in seconds; and when it writes at the
+# latest, also on a slow machine (by itself mosquitto writes twice an hour)
+SOON, LATE = 4.0, 10 * EVERY
 
 
 @contextmanager
@@ -56,7 +52,7 @@ def silent(port: int, count: int) -> Iterator[None]:
     """Clients that connect and say nothing."""
     with descriptors(OF_A_TRIAL), ExitStack() as those:
         for _ in range(count):
-            those.enter_context(socket.create_connection((HOST, port), 10))
+            those.enter_context(socket.create_connection((HOST, port), PATIENCE))
         yield
 
 
@@ -72,7 +68,7 @@ def broker(doors: Doors) -> Doors:
 def door(doors: Doors) -> Doors:
     """The server's door, with the descriptors of its unit."""
     with descriptors(OF_A_UNIT):
-        doors.open()
+        doors.open(after=LASTING)
     return doors
 
 
@@ -80,9 +76,8 @@ def test_silent_server(door: Doors) -> None:
     """A gateway's end of the door gives up a server that says nothing."""
     with socket.create_server((HOST, 0)) as server:
         port = door.open_client(server.getsockname()[1])
-        with socket.create_connection((HOST, port), 10) as link:
+        with socket.create_connection((HOST, port), PATIENCE) as link:
             link.sendall(gateway(GATEWAYS[0]))
-            link.settimeout(SOON)
             assert ended(link)
 
 
@@ -91,61 +86,37 @@ def test_silent_clients_at_the_door(door: Doors) -> None:
     """Silent clients keep nobody out, and a link that is idle stays. They take no process each, and
     little memory."""
     context, mine = door.own.context(GATEWAYS[0].lower()), door.own.context("application-3")
-    gateways = lambda: door.pilot.program.status()["gateways"]
-    with socket.create_connection((HOST, door.port), 10) as bare:
-        with context.wrap_socket(bare, server_hostname="localhost") as link:
-            link.sendall(gateway(GATEWAYS[0]))
-            await_that("a gateway has its link", lambda: gateways() == "1")
-            begun = time.monotonic()
-            with silent(door.port, AT_THE_DOOR):
-                let_in = lambda: door.connect(mine, application(3))
-                await_that("an application is let in beside silent ones", let_in, AT_ONCE, 0.2)
-                assert door.door.memory() < MOST_MEMORY
-                assert not Path(f"/proc/{door.door.pid}/task/{door.door.pid}/children").read_text(
-                    encoding="ascii"
-                )
-            time.sleep(max(0.0, begun + IDLE - time.monotonic()))
-            assert gateways() == "1", "an idle link stays"
+    with door.linked(context, gateway(GATEWAYS[0])), silent(door.port, AT_THE_DOOR):
+        let_in = lambda: door.connect(mine, application(3))
+        await_that("an application is let in beside silent ones", let_in)
+        assert door.door.memory() < MOST_MEMORY
+        children = Path(f"/proc/{door.door.pid}/task/{door.door.pid}/children")
+        assert not children.read_text(encoding="ascii")
+        assert door.pilot.program.status()["gateways"] == "1", "an idle link stays"
 
 
 def test_silent_clients_elsewhere(doors: Doors) -> None:
     """Silent clients of many addresses keep nobody out, either: they share all places."""
-    doors.open("--connections", "40", "--by-address", "10")
+    doors.open("--connections", "40", "--by-address", "10", after=LASTING)
     mine = doors.own.context("application-3")
     with ExitStack() as those:
         for number in range(80):
             source = (f"127.0.1.{number}", 0)
-            connection = socket.create_connection((HOST, doors.port), 10, source)
+            connection = socket.create_connection((HOST, doors.port), PATIENCE, source)
             those.enter_context(connection)
         let_in = lambda: doors.connect(mine, application(3))
-        await_that("an application is let in beside silent ones", let_in, AT_ONCE, 0.2)
+        await_that("an application is let in beside silent ones", let_in)
 
 
 def test_links_of_an_address(doors: Doors) -> None:
     """An address gets no more links than its places, and those that it has stay."""
     doors.open("--by-address", "2")
-    with ExitStack() as links:
-        for eui in GATEWAYS[:2]:
-            bare = links.enter_context(socket.create_connection((HOST, doors.port), 10))
-            context = doors.own.context(GATEWAYS[0].lower())
-            link = links.enter_context(context.wrap_socket(bare, server_hostname="localhost"))
-            link.sendall(gateway(eui))
-        links_of = lambda: doors.pilot.program.status()["gateways"]
-        await_that("both gateways have their links", lambda: links_of() == "2")
-        assert doors.connect(doors.own.context("application-3"), application(3), SOON) is None
-        assert links_of() == "2"
+    context, (one, two) = doors.own.context(GATEWAYS[0].lower()), map(gateway, GATEWAYS[:2])
+    with doors.linked(context, one), doors.linked(context, two, 1):
+        assert doors.connect(doors.own.context("application-3"), application(3)) is None
+        assert doors.pilot.program.status()["gateways"] == "2"
     said = f"{HOST} isn't let in: others have all places"
     await_that("the door logs it", lambda: doors.door.has_said(said))
-
-
-def is_let_in(port: int) -> bool:
-    """Whether the broker lets a client in on loopback."""
-    try:
-        with socket.create_connection((HOST, port), 5) as connection:
-            connection.sendall(HELLO)
-            return connection.recv(4) == LET_IN
-    except OSError:
-        return False
 
 
 def test_silent_clients_at_the_broker(broker: Doors) -> None:
@@ -153,8 +124,8 @@ def test_silent_clients_at_the_broker(broker: Doors) -> None:
     outside are let in."""
     context, port = broker.own.context(GATEWAYS[0].lower()), broker.broker_port
     with silent(port, AT_THE_BROKER):
-        is_well = is_let_in(broker.pilot.broker_port)
-        assert is_well, "a client on loopback is let in beside silent ones outside"
+        is_refused = refused_by_broker(broker.pilot.broker_port)
+        assert not is_refused, "a client on loopback is let in beside silent ones outside"
     await_that("one from outside is let in", lambda: not refused_by_broker(port, context))
 
 
@@ -200,11 +171,9 @@ def test_when_the_broker_writes(broker: Doors) -> None:
     begun, file = time.monotonic(), broker.pilot.file("mosquitto.db")
     with Kept(broker.pilot.broker_port) as kept:
         kept.come()
-    time.sleep(max(0.0, begun + LONG - time.monotonic()))
+    time.sleep(max(0.0, begun + SOON - time.monotonic()))
     assert not os.path.exists(file), "the broker doesn't write each second"
-    await_that("the broker writes", lambda: os.path.exists(file))
-    assert time.time() - os.stat(file).st_mtime < EVERY + 5, "how old it is"
-    assert time.monotonic() - begun < EVERY + 5
+    await_that("the broker writes", lambda: os.path.exists(file), LATE)
 
 
 def test_what_waits(broker: Doors) -> None:
@@ -224,6 +193,7 @@ def test_what_waits(broker: Doors) -> None:
     with kept:
         kept.come()
         due = list(range(WAITING // LONGEST + 1))
-        await_that("what waited", lambda: len(kept.numbers) >= len(due))
-        time.sleep(0.5)
-        assert kept.numbers == due, "which ones waited"
+        with Dashboard(port) as dashboard:
+            dashboard.say(f"{TOPIC}/command/down", b"-1")
+        await_that("what waited, and the next one", lambda: -1 in kept.numbers)
+        assert kept.numbers == [*due, -1], "which ones waited"

@@ -12,7 +12,7 @@ from typing import Any
 import pytest
 from bozintar.links import Application
 from bozintar.meters import JOIN_EUI, Meter, Reading
-from bozintar.processes import HOST, await_that
+from bozintar.processes import HOST, await_all, await_that
 
 from .field import APPLICATION, GATEWAYS, counts_in
 from .parts import Parts, run
@@ -175,13 +175,17 @@ def test_retained_command(whole: Whole, dashboard: Dashboard) -> None:
 
 @pytest.mark.parametrize("meters", [4])
 def test_devices_again(whole: Whole) -> None:
-    """The same file again, with a new line, a wrong one, and one of another application's device:
-    it says what was there before."""
+    """The same file again, after it was away for a while, with a new line, a wrong one, and one of
+    another application's device: it says what was there before."""
     part, other, third = whole.applications, Meter(99), Meter(98)
     link = Application(whole.pilot.address, APPLICATION + 1)
     link.asks(f"provision {third.dev_eui} {JOIN_EUI} {third.app_key.hex().upper()} 0 1")
     assert link.hears().startswith("provisioned ")
     link.close()
+    os.rename(whole.file, f"{whole.file}.moved")
+    part.send_signal(signal.SIGHUP)
+    await_that("it isn't read", lambda: part.has_said(f"{whole.file}: [Errno 2]"))
+    os.rename(f"{whole.file}.moved", whole.file)
     said = len(part.said())
     with open(whole.file, "a", encoding="utf-8") as file:
         file.write(f"{other.row()}\nno device\n# a comment\n{third.row()}\n")
@@ -251,7 +255,7 @@ def test_join_nonces(stored: Stored) -> None:
     assert stored.prints("--join-nonces") == (0, f"{HEAD}\n", ""), "before a reading"
     stored.say(SESSIONS)
     due = (0, "\n".join([HEAD, *HIGHEST]) + "\n", "")
-    await_that("all are stored", lambda: stored.prints("--join-nonces") == due)
+    await_all("all are stored", lambda: stored.prints("--join-nonces") == due)
     assert stored.part.end() == 0
     assert stored.prints("--join-nonces") == due, "of a database that nobody has open"
 
@@ -306,8 +310,8 @@ def test_report(stored: Stored) -> None:
     marks = [(dev, session, each) for dev, session, counters in COUNTERS for each in counters]
     stored.say(marks)
     due = (0, "\n".join(REPORT) + "\n", "")
-    await_that("all are stored", lambda: stored.prints("--report")[1].count("stored") == 3)
-    await_that("the last one", lambda: REPORT[2] in stored.prints("--report")[1])
+    await_all("all are stored", lambda: stored.prints("--report")[1].count("stored") == 3)
+    await_all("the last one", lambda: REPORT[2] in stored.prints("--report")[1])
     assert stored.prints("--report") == due
 
 
@@ -327,21 +331,23 @@ above 70B3D57ED0000003 1025 4
 SINCE = (
     ("70b3d57ed0000001", 1025, 0),
     ("70b3d57ed0000001", 1025, 1),
+    # the last session before the restore, and one after it
+    ("70b3d57ed0000002", 1031, 0),
     ("70b3d57ed0000002", 1032, 0),
 )
 TAKEN_SINCE = (
     f"70B3D57ED0000001 stored 7 missing 0 taken 2 lost 0 restored last {TIME}",
-    f"70B3D57ED0000002 stored 3 missing 4 taken 6 lost 5 restored last {TIME}",
+    f"70B3D57ED0000002 stored 4 missing 4 taken 6 lost 5 restored last {TIME}",
     f"70B3D57ED0000003 stored 1 missing 0 taken 0 lost 0 restored last {TIME}",
-    "readings 11 missing 4 lost 5",
+    "readings 12 missing 4 lost 5",
 )
 # without what lnsd restore printed, a loss is only seen if it is greater than what was stored
 # before
 TAKEN = (
     f"70B3D57ED0000001 stored 7 missing 0 taken 3 lost 0 restored last {TIME}",
-    f"70B3D57ED0000002 stored 3 missing 4 taken 9 lost 6 last {TIME}",
+    f"70B3D57ED0000002 stored 4 missing 4 taken 9 lost 5 last {TIME}",
     f"70B3D57ED0000003 stored 1 missing 0 taken 4 lost 3 last {TIME}",
-    "readings 11 missing 4 lost 9",
+    "readings 12 missing 4 lost 8",
 )
 
 
@@ -350,7 +356,7 @@ def test_report_after_a_restore(stored: Stored, parts: Parts) -> None:
     readings from before make up for another one's losses."""
     marks = [(dev, session, each) for dev, session, counters in COUNTERS for each in counters]
     stored.say([*marks, *SINCE])
-    await_that("all are stored", lambda: "readings 11 " in stored.prints("--report")[1])
+    await_all("all are stored", lambda: "readings 12 " in stored.prints("--report")[1])
     words = ("--report", "--list", parts.file("list", "\n".join(LISTED) + "\n"))
     assert stored.prints(*words) == (0, "\n".join(TAKEN) + "\n", "")
     more = ("--restored", parts.file("restored", RESTORED))
@@ -363,7 +369,7 @@ def test_silent_devices(stored: Stored, parts: Parts) -> None:
     times = [(now - timedelta(hours=hours)).isoformat() for hours in (47, 49, 72)]
     for number, time in enumerate(times):
         stored.say([(f"70b3d57ed000000{number}", 1, 0)], time)
-    await_that("all are stored", lambda: "readings 3 " in stored.prints("--report")[1])
+    await_all("all are stored", lambda: "readings 3 " in stored.prints("--report")[1])
     due = [f"70B3D57ED0000002 last {times[2]}", f"70B3D57ED0000001 last {times[1]}"]
     assert stored.prints("--silent", "48h")[1].splitlines() == [*due, "silent 2 of 3"]
     file = parts.file("devices.csv", f"{Meter(7).row()}\n70b3d57ed0000000,{JOIN_EUI},{'0' * 32}\n")
@@ -377,4 +383,4 @@ def test_readings_while_away(stored: Stored) -> None:
     assert stored.part.end() == 0
     stored.say(SESSIONS[:1])
     stored.part.start("connected")
-    await_that("it is stored", lambda: ",9" in stored.prints("--join-nonces")[1])
+    await_all("it is stored", lambda: ",9" in stored.prints("--join-nonces")[1])

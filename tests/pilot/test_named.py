@@ -13,7 +13,7 @@ from typing import Any
 import pytest
 from bozintar.forwarders import Air, Forwarder
 from bozintar.logs import Seldom
-from bozintar.processes import HOST, Process, await_that
+from bozintar.processes import HOST, PATIENCE, Process, await_that
 from bridges import named
 from bridges.datagrams import MOST_AT_ONCE, Datagrams
 
@@ -163,7 +163,7 @@ def test_address_that_isnt_listed(listed: Listed, first: Forwarder) -> None:
         first.hears(bytes(12))
         stamp = (link.hears() or b"")[18:22]
         link.say(b"\x11" + EUI + stamp + bytes.fromhex("33BE27A0 05 05 06") + bytes(12))
-        Air([first], []).go_on(5, lambda: first.told)
+        Air([first], []).go_on(PATIENCE, lambda: first.told)
         assert len(first.told) == 1, "the downlink comes to the gateway"
         stranger.settimeout(0.1)
         with pytest.raises(TimeoutError):
@@ -180,7 +180,7 @@ def test_two_ports_by_turns(listed: Listed) -> None:
     for _ in range(50):
         for own in ports:
             own.sendto(head, at)
-            own.settimeout(10)
+            own.settimeout(PATIENCE)
             assert own.recv(100)[3] == 4, "it is answered"
     for own in ports:
         own.close()
@@ -196,7 +196,7 @@ def test_what_waits_in_the_socket(listed: Listed) -> None:
             stranger.sendto(b"\x02\0\0\x02" + bytes(8), (HOST, listed.parts.udp_port))
     listed.part.send_signal(signal.SIGCONT)
     read = lambda: counts_in(listed.counts)["gateways_udp_unknown_gateways"] == STOPPED
-    await_that("all are read", read, 30, 0.2)
+    await_that("all are read", read, step=0.2)
 
 
 def test_end_beside_a_flood(listed: Listed, first: Forwarder) -> None:
@@ -238,7 +238,7 @@ def test_many_datagrams_at_a_time() -> None:
 def test_frames_that_say_nothing(listed: Listed, first: Forwarder) -> None:
     """A datagram with thousands of frames, which are none, costs no more than a gateway may say."""
     first.say(0, b'{"rxpk":[' + b"{}," * 19_999 + b"{}]}")
-    Air([first], []).go_on(10, lambda: first.acknowledged)
+    first.await_read()
     assert listed.counted("without_crc", "too_many") == [400, 19_600]
 
 

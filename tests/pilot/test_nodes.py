@@ -16,7 +16,7 @@ import pytest
 from bozintar import mqtt
 from bozintar.broker import Access, Broker
 from bozintar.members import addresses
-from bozintar.processes import HOST, Process, await_that, command, free_port
+from bozintar.processes import HOST, Process, await_all, await_that, command, free_port
 from bozintar.words import Address
 
 from .parts import Parts, run
@@ -210,7 +210,7 @@ def test_readings(parts: Parts, how: str) -> None:
     two.publish("application/3/device/70b3d57ed0000001/event/up", json.dumps(READING))
     with sqlite3.connect(db) as database:
         rows = lambda: database.execute("SELECT device, counter FROM readings").fetchall()
-        await_that("a reading is stored", rows)
+        await_all("a reading is stored", rows)
         assert rows() == [("70B3D57ED0000001", 5)]
     for node in (one, two):
         node.leave()

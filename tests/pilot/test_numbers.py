@@ -142,7 +142,7 @@ def of_bridge(pilot: Pilot, name: str) -> set[str]:
         with_pull.look()
         await_that("it asks for downlinks", lambda: part.has_said("asks from"))
         with_pull.close()
-    await_that("the counts", lambda: os.path.exists(file), 20)
+    await_that("the counts", lambda: os.path.exists(file))
     part.end()
     return set(samples(Path(file).read_text(encoding="utf-8")))
 
@@ -163,7 +163,7 @@ def of_door(doors: Doors) -> set[str]:
     """The names of the numbers that the door writes."""
     file = doors.pilot.file("door.prom")
     doors.open("--counts", file)
-    await_that("the counts", lambda: os.path.exists(file), 20)
+    await_that("the counts", lambda: os.path.exists(file))
     return set(samples(Path(file).read_text(encoding="utf-8")))
 
 

@@ -5,6 +5,7 @@ from pathlib import Path
 
 import pytest
 
+pytestmark = pytest.mark.pages
 HERE = Path(__file__).resolve().parent
 TOP = HERE.parents[1]
 NAMED = re.findall(r"`([\w/]+)::(test_\w+)`", (HERE / "README.md").read_text(encoding="utf-8"))

@@ -7,8 +7,9 @@ from typing import Any
 
 from bozintar import wire
 from bozintar.fields import Wrong
-from bridges import gateway_events
+from bridges import gateway_events, named
 
+from .parts import program_of_pilot
 from .rows import outcome, table
 
 STATION = bytes.fromhex("0016c001f153a14c")
@@ -132,6 +133,16 @@ def test_command_down(text: str, items: Any) -> None:
 def test_event_ack(text: bytes, due: Any) -> None:
     """What became of a downlink."""
     assert outcome(gateway_events.statuses, text) == due
+
+
+def test_contexts() -> None:
+    """The contexts of a gateway's last 1,024 uplinks are kept."""
+    eui, body = STATION.hex().upper(), json.dumps(EVENT).encode()
+    gateway = program_of_pilot("gateways-mqtt").Gateway(named.Named(eui), None)
+    for stamp in range(1026):
+        gateway.keep(gateway_events.up(eui, stamp, body))
+    assert list(gateway.contexts) == list(range(2, 1026))
+    assert gateway.contexts[1025] == CONTEXT
 
 
 def test_command_topic() -> None:

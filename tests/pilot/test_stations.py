@@ -18,7 +18,7 @@ def test_each_data_rate(by_stations: ByStations) -> None:
         frame, mark = meter.reads(), meter.awaited
         for station in by_stations.air.gateways:
             station.hears(frame, CHANNELS[place], place, times=2)
-        is_so = by_stations.air.go_on(10, lambda: mark in meter.acknowledged)
+        is_so = by_stations.air.go_on(60, lambda: mark in meter.acknowledged)
         assert is_so, f"data rate {place} is acknowledged"
     assert by_stations.await_stored(by_stations.acknowledged()), "all are stored"
     assert len(by_stations.stored()) == len(DATA_RATES)
@@ -31,7 +31,7 @@ def test_second_window(by_stations: ByStations) -> None:
     first.errors.append("TOO_LATE")
     frame, mark = meter.reads(), meter.awaited
     first.hears(frame, CHANNELS[3], 5, snr=2)
-    assert by_stations.air.go_on(10, lambda: mark in meter.acknowledged), "RX2"
+    assert by_stations.air.go_on(60, lambda: mark in meter.acknowledged), "RX2"
     assert by_stations.await_stored(by_stations.acknowledged()), "it is stored"
     came = []
     for told in first.told[-2:]:

@@ -8,7 +8,7 @@ from pathlib import Path
 from typing import Any
 
 import pytest
-from bozintar.processes import HOST, Process, await_that, free_port
+from bozintar.processes import HOST, Process, await_all, await_that, free_port
 
 from .field import APPLICATION
 from .networks import End, Network
@@ -57,7 +57,7 @@ class Applied:
     def events(self, kind: str, device: str = FIRST, count: int = 1) -> list[dict]:
         """The events of a kind of a device, once there are this many."""
         found = lambda: self.dashboard.of(device, kind)
-        await_that(f"{count} {kind}", lambda: len(found()) >= count, 20)
+        await_all(f"{count} {kind}", lambda: len(found()) >= count)
         return found()
 
     def queues(self, name: str, device: str = FIRST, **more: Any) -> None:
@@ -200,7 +200,7 @@ def test_unknown_store_at_the_start(applied: Applied, stores: Stores) -> None:
     applied.dashboard.down(FIRST, **ITEM, id="1")
     applied.hear_nothing("d00")
     with socket.create_server((HOST, late)) as listener:
-        listener.settimeout(20)
+        listener.settimeout(60)
         with listener.accept()[0] as other:
             link = End(other)
             assert applied.links["d00"].asked()[:2] == ["queue", FIRST]
@@ -262,7 +262,7 @@ def test_end(applied: Applied) -> None:
         link.tell(up(counter))
     part.send_signal(signal.SIGTERM)
     for link in applied.links.values():
-        assert link.hears(20) is None
+        assert link.hears() is None
         link.tell(up(10 + link.socket.fileno()))
         link.close()
     assert part.ended() == 0
@@ -285,7 +285,7 @@ def test_asks(applied: Applied) -> None:
     applied.start("--asks", path, "--claims", applied.claims)
     await_that("the socket", lambda: applied.part and applied.part.has_said("takes requests"))
     with socket.socket(socket.AF_UNIX) as client:
-        client.settimeout(20)
+        client.settimeout(60)
         client.connect(path)
         line = f"provision {FIRST} 0102030405060708 2B7E151628AED2A6ABF7158809CF4F3C 0 1"
         for text, name, answer in (

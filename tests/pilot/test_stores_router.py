@@ -2,7 +2,6 @@
 played."""
 
 import signal
-import sys
 from typing import Any
 
 import pytest
@@ -12,15 +11,14 @@ from bozintar.processes import HOST, Process, await_that, free_port
 from bozintar.wire import Copy
 
 from .field import GATEWAYS, counts_in
-from .parts import PILOT, Parts
-from .played import CHANGED
+from .parts import Parts
 from .rows import table
 from .stores import Stores, downlink_to, frame_of, uplink
 
 ONE, OTHER = GATEWAYS[:2]
 GREETING = oracle.message(b"\0" + bytes.fromhex(ONE))
 HOW = (868_100_000, 5, 30, -95, 50_000)
-SECONDS = 20.0
+SECONDS = 60.0
 # lets the program open 64 files at first
 FEW_FILES = """import resource
 resource.setrlimit(resource.RLIMIT_NOFILE, (64, resource.getrlimit(resource.RLIMIT_NOFILE)[1]))
@@ -49,11 +47,10 @@ class Routed:
 
     def start(self, *words: Any, before: str = "", after: str = "") -> Process:
         """Starts it, with something of it changed."""
-        program = [sys.executable, "-c", CHANGED, PILOT / "router", before, after]
         at = ("--listen", f"{HOST}:{self.at[1]}", "--stores", self.stores.file)
         said = (*at, "--counts", self.counts, *words)
-        self.part = self.parts.process("router", *program, *said).start("listens on")
-        return self.part
+        self.part = self.parts.own("router", *said, before=before, after=after)
+        return self.part.start("listens on")
 
     def gateway(self, eui: str = ONE) -> Gateway:
         """A gateway that is linked."""

@@ -6,21 +6,30 @@ import pytest
 from bozintar.frames import CHANNELS
 from bozintar.links import Application
 from bozintar.meters import JOIN_EUI
+from bozintar.processes import PATIENCE, Process
 from bozintar.wire import PROVISION
 
 from .field import APPLICATION, Field, counts_in
-from .parts import Pilot
+from .parts import WAITS, Pilot
+from .played import gateways
 
 RX2 = ("SF12BW125", 869.525)
 LATE = "TOO_LATE"
+SECOND = 1_000_000  # of a forwarder's clock
 
 
 class Linked(Field):
     """A field with an application that has a link of its own."""
 
+    after = WAITS  # what is changed of the bridge
+
     def __init__(self, pilot: Pilot, meters: int) -> None:
         super().__init__(pilot, meters)
         self.application = Application(pilot.address, APPLICATION)
+
+    def start_gateways(self) -> Process:
+        network = self.pilot.network
+        return gateways(self.pilot, network, *self.named, after=self.after, ready="listens on")
 
     def provision(self) -> None:
         """Has the network know all meters."""
@@ -57,6 +66,7 @@ def test_each_data_rate(field: Linked) -> None:
         due = (f"SF{12 - place}BW125", CHANNELS[place] / 1e6, True, True, "4/5", 14)
         names = ("datr", "freq", "ipol", "ncrc", "codr", "powe")
         assert tuple(told[name] for name in names) == due
+        assert (told["tmst"] - field.air.gateways[0].stamp) % 2**32 == SECOND, "RX1"
     named = ("in_rx2", "clocks_begun_anew", "ports_moved", "wrong_datagrams")
     assert field.counted(*named) == [0, 0, 0, 0], named
 
@@ -71,7 +81,6 @@ def test_short_pause(field: Linked) -> None:
     mark = meter.awaited
     assert mark
     field.application = Application(field.pilot.address, APPLICATION)
-    field.air.go_on(3)
     words = field.application.hears().split(" ")[:4]
     assert words == ["up", mark.device, str(mark.session), str(mark.counter)]
 
@@ -84,12 +93,15 @@ def test_lost_window(field: Linked) -> None:
     assert field.reading(field.meters[0]), "a reading is acknowledged in RX2"
     told = first.told[-2:]
     assert (told[1]["datr"], told[1]["freq"]) == RX2
-    assert (told[1]["tmst"] - told[0]["tmst"]) % 2**32 == 1_000_000, "RX2 is a second later"
+    assert (told[1]["tmst"] - told[0]["tmst"]) % 2**32 == SECOND, "RX2 is a second later"
     first.errors.append("TOO_EARLY")
-    count = len(first.told)
-    assert not field.reading(field.meters[1], 2.0), "a moment that is too far away"
-    assert len(first.told) == count + 1
-    assert field.counted("in_rx2") == [1]
+    count, late = len(first.told), field.meters[1]
+    field.send(late.reads())
+    assert field.air.go_on(PATIENCE, lambda: len(first.told) > count)
+    first.await_read()
+    assert len(first.told) == count + 1, "a moment that is too far away"
+    assert late.awaited not in late.acknowledged
+    assert field.counted("in_rx2", "not_sent") == [1, 1]
 
 
 @pytest.mark.parametrize("meters", [3])
@@ -98,11 +110,12 @@ def test_another_clock(field: Linked) -> None:
     first, second, third = field.air.gateways
     first.restart(begins=500)
     third.move()
-    field.air.go_on(0.3)
+    for moved in (first, third):
+        moved.await_read()
     assert field.reading(field.meters[0], by=[first]), "a reading by the clock begun anew"
     assert field.reading(field.meters[1], by=[third]), "a reading by the other port"
-    for _ in range(2):
-        assert field.reading(field.meters[2], by=[second]), "a clock that wraps"
-        field.air.go_on(1.0)
+    assert field.reading(field.meters[2], by=[second])
+    assert field.air.go_on(PATIENCE, lambda: second.clock() < 2**31), "a clock that wraps"
+    assert field.reading(field.meters[2], by=[second])
     named = ("clocks_begun_anew", "ports_moved", "wrong_datagrams")
     assert field.counted(*named) == [1, 2, 0], named

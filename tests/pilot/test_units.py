@@ -164,9 +164,8 @@ def test_door_reads_its_files_again(doors: Doors) -> None:
     door = doors.pilot.own("secure/door", *shlex.split(line)[1:]).start("listens on")
     run(shell(name, "ExecReload", *places), MAINPID=str(door.pid))
     await_that("the files are read again", lambda: door.has_said("read the files again"))
-    greeting = gateway(GATEWAYS[0])
-    assert doors.connect(doors.own.context(GATEWAYS[0].lower()), greeting) == b""
-    await_that("its counts are there", lambda: os.path.exists(f"{copies}/door.prom"))
+    with doors.linked(doors.own.context(GATEWAYS[0].lower()), gateway(GATEWAYS[0])):
+        await_that("its counts are there", lambda: os.path.exists(f"{copies}/door.prom"))
     counts = Path(f"{copies}/door.prom").read_text(encoding="utf-8")
     for file in ("server.crt", "ca.crl"):
         found = re.search(rf'pilot_certificate_end_seconds{{file="{copies}/{file}"}} (\S+)', counts)

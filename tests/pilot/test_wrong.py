@@ -160,7 +160,7 @@ PROGRAMS = sorted({name for name, _, _ in WORDS})
 def ended(name: str, *said: str) -> tuple[int | None, str, str]:
     """How a program ends; its status is None if it goes on."""
     try:
-        return run(name, *said, stdin=subprocess.DEVNULL, timeout=10)
+        return run(name, *said, stdin=subprocess.DEVNULL, timeout=60)
     except subprocess.TimeoutExpired:
         return None, "", ""
 

@@ -6,13 +6,15 @@ from typing import Any, TypeVar
 
 from bozintar.meters import Reading
 from bozintar.mqtt import client
-from bozintar.processes import HOST, Failed, await_that
+from bozintar.processes import HOST, PATIENCE, Failed, await_that
 
 from .field import APPLICATION, Field
 from .parts import Pilot
 
 # how long many devices may take on a busy machine, in seconds
 LONG = 240.0
+# has the bridge wait for a broker, at its end, longer than any trial waits
+LEAVING = "program.LEAVING = 600.0"
 COLUMNS = "device, session, counter, payload"
 C = TypeVar("C", bound="Client")
 EVENTS = f"application/{APPLICATION}/device/+/event/+"
@@ -66,11 +68,11 @@ class Dashboard(Client):
     def down(self, device: str, **body: Any) -> None:
         """Asks for an item."""
         topic = f"application/{APPLICATION}/device/{device.lower()}/command/down"
-        self.client.publish(topic, json.dumps(body), qos=1).wait_for_publish(10)
+        self.client.publish(topic, json.dumps(body), qos=1).wait_for_publish(PATIENCE)
 
     def say(self, topic: str, payload: bytes) -> None:
         """Publishes anything."""
-        self.client.publish(topic, payload, qos=1).wait_for_publish(10)
+        self.client.publish(topic, payload, qos=1).wait_for_publish(PATIENCE)
 
 
 class Whole(Field):
@@ -86,7 +88,7 @@ class Whole(Field):
         # so few that lines wait in the link too if the broker is away
         counts += ("--room", 50)
         words = ("--network", pilot.network, *broker, *counts)
-        self.applications = pilot.own("applications-mqtt", *words)
+        self.applications = pilot.own("applications-mqtt", *words, after=LEAVING)
         self.database = pilot.file("readings.db")
         self.readings = pilot.own("readings", "--db", self.database, *broker)
         self.readings.start("connected")
@@ -104,7 +106,7 @@ class Whole(Field):
         """All readings that were acknowledged to their meters."""
         return {mark: meter.sent[mark] for meter in self.meters for mark in meter.acknowledged}
 
-    def await_stored(self, due: dict, seconds: float = 90.0) -> bool:
+    def await_stored(self, due: dict, seconds: float = LONG) -> bool:
         """Waits until these readings are stored, and no others under their names."""
         try:
             await_that("stored", lambda: due.items() <= self.stored().items(), seconds, 0.1)
