@@ -1,8 +1,10 @@
-"""What all trials share: options, the program lnsd, ports, trials that the machine spoils, and the
-last line, 'N passed, M failed'."""
+"""What all trials share: options, the program lnsd, ports and processors, trials that the machine
+spoils, and the last line, 'N passed, M failed'."""
 
+import errno
 import os
 import signal
+import subprocess
 import sys
 import tempfile
 from collections.abc import Iterator
@@ -13,21 +15,27 @@ from typing import Any, NoReturn
 import pytest
 from _pytest.runner import runtestprotocol
 
-from .ports import take_ports
+from .ports import take_ports, take_processors
 from .running import ROOT
 
 take_ports()  # before bozintar.processes looks which ones there are
 
+from bozintar.links import Silent
+from bozintar.processes import Late, forget_started, has_crashed
 from bozintar.server import BUILT
 from bozintar.words import is_program
 
 from .pauses import Pauses
+from .unsteady import put_off
 
 # programs that trials start write no bytecode into the tree
 sys.dont_write_bytecode = True
 os.environ["PYTHONDONTWRITEBYTECODE"] = "1"
-# how often a trial is done that failed while the machine paused
+# how often a trial is done that took too long while the machine paused
 TIMES = 4
+# Failures that say only that something took too long. All others are of the program, and a trial
+# with one of them is never done again.
+OF_TIME = (Late, Silent, TimeoutError, subprocess.TimeoutExpired)
 SEED = 7
 SIMULATOR = str(ROOT / "crates/lns_sim/out/lns_sim")
 pytest_plugins = ("tests.lnsd.options",)
@@ -47,6 +55,10 @@ def pytest_addoption(parser: pytest.Parser) -> None:
     text = "how often each trial is done, random ones with the next seed each time (1)"
     group.addoption("--rounds", type=int, metavar="N", default=1, help=text)
     group.addoption("--seed", type=int, metavar="N", default=SEED, help=f"the first seed ({SEED})")
+    text = "leaves trials that took too long to tests/unsteady.py, in this file"
+    group.addoption("--put-off", metavar="FILE", help=text)
+    text = "with -n, each worker has processors of its own: trials about time run side by side"
+    group.addoption("--own-processors", action="store_true", help=text)
 
 
 def pytest_configure(config: pytest.Config) -> None:
@@ -55,6 +67,8 @@ def pytest_configure(config: pytest.Config) -> None:
         signal.signal(number, end)
     # A shell lets jobs in the background ignore SIGINT. What they start would ignore it, too.
     signal.signal(signal.SIGINT, signal.default_int_handler)
+    if config.getoption("own_processors"):
+        take_processors()
 
 
 def end(number: int, _frame: FrameType | None) -> NoReturn:
@@ -125,18 +139,32 @@ def folder() -> Iterator[Path]:
         yield Path(made)
 
 
+@pytest.hookimpl(hookwrapper=True)
+def pytest_runtest_makereport(item: pytest.Item, call: pytest.CallInfo[None]) -> Any:
+    """Notes of a failure whether it says only that something took too long."""
+    outcome = yield
+    error = call.excinfo and call.excinfo.value
+    is_late = isinstance(error, OF_TIME) or type(error).__name__ == "TimeoutException"  # selenium's
+    is_taken = isinstance(error, OSError) and error.errno == errno.EADDRINUSE
+    outcome.get_result().is_of_time = (is_late or is_taken) and not has_crashed()
+
+
 def pytest_runtest_protocol(item: pytest.Item, nextitem: pytest.Item | None) -> bool:
-    """Does one trial, again if it failed while the machine paused: that says nothing of what is
-    tried."""
+    """Does one trial, again if it took too long while the machine paused: that says nothing of what
+    is tried. If it took too long all the same, it may be put off."""
     item.ihook.pytest_runtest_logstart(nodeid=item.nodeid, location=item.location)
-    for time in range(1 if item.get_closest_marker("repeats_itself") else TIMES):
+    for _ in range(TIMES):
+        forget_started()
         with Pauses() as pauses:
             reports = runtestprotocol(item, log=False, nextitem=nextitem)
-        has_failed = any(report.failed for report in reports)
-        if not (has_failed and pauses.is_spoilt()):
+        failed = [report for report in reports if report.failed]
+        is_of_time = bool(failed) and all(getattr(report, "is_of_time") for report in failed)
+        if not (is_of_time and pauses.is_spoilt()):
             break
-        why = [report.longreprtext.splitlines()[-1:] for report in reports if report.failed]
+        why = [report.longreprtext.splitlines()[-1:] for report in failed]
         print(f"{item.nodeid}: {why}; the machine paused for {pauses.longest:.2f} s: again")
+    if is_of_time and (file := item.config.getoption("put_off")):
+        put_off(file, item.nodeid, failed)
     for report in reports:
         add_repetition(item, report)
         item.ihook.pytest_runtest_logreport(report=report)
