@@ -8,9 +8,10 @@ says what the mistake does. `Seen by:` has the trials that fail with it, as word
 
 For each patch a copy of the repository is made. If the patch changes a crate, lnsd is compiled
 there, unproved, in a minute or two. At first the trials have to pass without any patch. What was
-seen is noted in out/planted/SEEN with a checksum of the sources, the trials and the patch, and isn't
-tried again: so a run that was interrupted goes on. --look only compares the patches with the
-sources. Run this before a release, and after the crates or programs of many patches were rebuilt.
+seen is noted in tests/planted/SEEN with a checksum of the patch, of the crates or files that it
+changes, and of the trials. It isn't tried again until one of these changes, so a run that was
+interrupted goes on. Commit SEEN. --look only compares the patches with the sources, and says how
+many aren't noted. Run this before a release, and after a rebuilding of what many patches change.
 
 Status: 0 if each fault is seen; 1 if not, or if a patch can't be applied."""
 
@@ -36,7 +37,7 @@ import commands
 T = TypeVar("T")
 D = TypeVar("D")
 OUT = ROOT / "out/planted"
-SEEN = OUT / "SEEN"
+SEEN = ROOT / "tests/planted/SEEN"
 # the ports of the first lane, and how many each has
 PORTS, EACH = 26000, 700
 HEAD = re.compile(r"(?P<what>.+)\n(?P<kind>Seen by|Survives):(?P<rest>.*)\n")
@@ -81,15 +82,11 @@ class Patch:
         return "".join(f"there is no {row}" for row in self.missing())
 
     def sum(self) -> str:
-        """The checksum of all that decides whether it is seen."""
-        folder = "crates" if self.changes_crates() else "pilot"
-        names = [
-            self.file,
-            *files(folder, "python"),
-            *(row.partition("::")[0] for row in self.rows),
-        ]
-        paths = [ROOT / name for name in names if (ROOT / name).is_file()]
-        return hashlib.sha256(b"\0".join(path.read_bytes() for path in paths)).hexdigest()[:16]
+        """The checksum of the patch, of the crates or files that it changes, and of the trials."""
+        changed = re.findall(r"^\+\+\+ b/(crates/\w+/src|.+)", self.text, re.MULTILINE)
+        names = [self.file, *files(*changed, *(row.partition("::")[0] for row in self.rows))]
+        sums = b"\0".join((ROOT / name).read_bytes() for name in names)
+        return hashlib.sha256(sums).hexdigest()[:16]
 
 
 def copied(room: Path) -> None:
@@ -175,10 +172,20 @@ def chosen(names: Sequence[str]) -> list[Patch]:
     return [of for of in found if not names or {of.name, of.name.split("/")[0]} & {*names}]
 
 
-def try_all(patches: Sequence[Patch]) -> dict[str, str]:
-    """Tries those that have rows and aren't noted; what is wrong with each."""
-    noted = SEEN.read_text(encoding="utf-8").splitlines() if SEEN.exists() else []
-    due = [of for of in patches if of.rows and f"{of.name} {of.sum()}" not in noted]
+def noted() -> dict[str, str]:
+    """The checksums of the patches that were seen."""
+    lines = SEEN.read_text(encoding="utf-8").splitlines() if SEEN.exists() else []
+    return dict(line.split() for line in lines)
+
+
+def note(patch: Patch) -> None:
+    """Notes that a patch is seen."""
+    notes = noted() | {patch.name: patch.sum()}
+    SEEN.write_text("".join(f"{name} {of}\n" for name, of in sorted(notes.items())))
+
+
+def try_all(due: Sequence[Patch]) -> dict[str, str]:
+    """Tries patches; what is wrong with each."""
     clean = compiled(ROOT) if due else ""
     found = {}
     rows = list(dict.fromkeys(row for of in due for row in of.rows))
@@ -192,8 +199,7 @@ def try_all(patches: Sequence[Patch]) -> dict[str, str]:
         if why:
             found[patch.name] = why
         else:
-            with SEEN.open("a", encoding="utf-8") as notes:
-                notes.write(f"{patch.name} {patch.sum()}\n")
+            note(patch)
     return found
 
 
@@ -203,12 +209,14 @@ def main(*words: str) -> int:
     OUT.mkdir(parents=True, exist_ok=True)
     patches = chosen(names)
     wrong = {of.name: why for of in patches if (why := of.look())}
+    due = [of for of in patches if of.rows and noted().get(of.name) != of.sum()]
     if not wrong and "--look" not in words:
-        wrong = try_all(patches)
+        wrong = try_all(due)
     for name, why in wrong.items():
         print(f"{name}: {why}")
     survivors = [of.name for of in patches if not of.rows]
     print(f"survivors: {len(survivors)} {' '.join(survivors)}")
+    print(f"not seen before: {len(due)}")
     print(f"{len(patches) - len(wrong)} passed, {len(wrong)} failed")
     return 1 if wrong else 0
 
