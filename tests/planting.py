@@ -38,8 +38,8 @@ T = TypeVar("T")
 D = TypeVar("D")
 OUT = ROOT / "out/planted"
 SEEN = ROOT / "tests/planted/SEEN"
-# the ports of the first lane, and how many each has
-PORTS, EACH = 26000, 700
+# the ports of the first lane, and how many each has: none of the trials of the gate
+PORTS, EACH = 10000, 700
 HEAD = re.compile(r"(?P<what>.+)\n(?P<kind>Seen by|Survives):(?P<rest>.*)\n")
 
 
