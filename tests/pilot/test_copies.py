@@ -3,6 +3,7 @@ tests/lnsd/copies."""
 
 import os
 import re
+import subprocess
 import threading
 import time
 from collections.abc import Iterator
@@ -97,6 +98,71 @@ def test_no_store(
     words = (file, to, "--lnsd", program)
     assert run("copy", *words) == (1, "", f"copy: {file} can't be copied: {why}\n")
     assert not list(to.iterdir())
+
+
+def test_encrypted_copies(made: Path, program: str, folder: Path) -> None:
+    """Encrypted copies are those of lnsd, for who has one of the keys. The newest are kept, also
+    among others, and nothing is left where they were made."""
+    keys = [key_of(folder / name) for name in ("first", "second")]
+    to, room = folder / "to", folder / "room"
+    to.mkdir()
+    room.mkdir()
+    (to / "store-2026-11-29T22-50-24").write_bytes(b"an older copy")
+    words = (made, to, "--lnsd", program, "--keep", 1, "--room", room)
+    status, out, said = run("copy", *words, *(f"--recipient={key}" for key in keys))
+    assert (status, said) == (0, "")
+    (file,) = to.iterdir()
+    assert re.fullmatch(r"store-\d{4}-\d\d-\d\dT\d\d-\d\d-\d\d\.age", file.name)
+    assert f"{file}: devices 0 seq 0\n" in out and file.stat().st_mode & 0o777 == 0o600
+    for name in ("first", "second"):
+        plain = subprocess.run(
+            ["age", "--decrypt", "--identity", folder / name, file], capture_output=True, check=True
+        )
+        assert image.read(plain.stdout).lines() == ["devices 0 seq 0"]
+    assert not list(room.iterdir())
+
+
+def key_of(file: Path) -> str:
+    """A new key of age in a file; its public part."""
+    words = ["age-keygen", "--output", file]
+    said = subprocess.run(words, capture_output=True, text=True, check=True).stderr
+    return said.rsplit(" ", 1)[-1].strip()
+
+
+@table(
+    "name, key, path, why",
+    (
+        ("no key", "age1none", None, "age: error: malformed recipient"),
+        ("no age", "age1none", "/nowhere", "there is no program age"),
+    ),
+)
+def test_copies_that_are_not_encrypted(
+    made: Path,
+    program: str,
+    folder: Path,
+    monkeypatch: pytest.MonkeyPatch,
+    name: str,
+    key: str,
+    path: str | None,
+    why: str,
+) -> None:
+    """If a copy can't be encrypted, a line says why, and none is left in clear."""
+    to = folder / "to"
+    to.mkdir()
+    if path:
+        monkeypatch.setenv("PATH", path)
+    status, _, said = run("copy", made, to, "--lnsd", program, "--recipient", key)
+    assert status == 1 and said.startswith("copy: the copy can't be encrypted") and why in said
+    assert not list(to.iterdir())
+
+
+def test_disk_that_is_not_mounted(made: Path, program: str, folder: Path) -> None:
+    """If a disk has to be mounted at the folder and isn't, nothing is copied."""
+    words = ("--lnsd", program, "--mounted")
+    due = f"copy: no disk is mounted at {folder}: nothing is copied\n"
+    assert run("copy", made, folder, *words) == (1, "", due)
+    assert not list(folder.iterdir())
+    assert "no disk" not in run("copy", made, "/proc", *words)[2], "a file system is mounted there"
 
 
 def test_program_that_fails(made: Path, folder: Path) -> None:

@@ -67,10 +67,10 @@ def test_one_store(folder: Path, lnsd: str) -> None:
 
 
 def test_copies(folder: Path, lnsd: str) -> None:
-    """The newest copy of each store is in its own folder."""
-    for name, moment in (("d00", 1000), ("d01", 2000)):
+    """The newest copy of each store is in its own folder, encrypted or not; and the room there."""
+    for name, moment, suffix in (("d00", 1000, ""), ("d01", 2000, ".age")):
         for more in (0, -500):
-            file = folder / name / f"store-2026-11-29T22-50-{10 + more % 7}"
+            file = folder / name / f"store-2026-11-29T22-50-{10 + more % 7}{suffix}"
             file.parent.mkdir(exist_ok=True)
             file.write_bytes(b"")
             os.utime(file, (moment + more, moment + more))
@@ -80,6 +80,9 @@ def test_copies(folder: Path, lnsd: str) -> None:
         'pilot_copy_seconds{store="d00"} 1000.0',
         'pilot_copy_seconds{store="d01"} 2000.0',
     ]
+    free = dict(line.split(" ") for line in found if line.startswith("pilot_copies_free_bytes"))
+    assert list(free) == [f'pilot_copies_free_bytes{{store="d0{number}"}}' for number in (0, 1)]
+    assert all(float(room) > 0 for room in free.values())
 
 
 # words, and what is said of them

@@ -206,8 +206,9 @@ def test_console_reads_its_files(pilot: Pilot) -> None:
 def test_copies_of_the_night(pilot: Pilot) -> None:
     """The unit for copies makes one while the server runs, and keeps those of 14 nights; its timer
     also makes up for a night in which the machine was off."""
-    folder = Path(pilot.file("copies"))
+    folder, room = Path(pilot.file("copies")), Path(pilot.file("room"))
     folder.mkdir()
+    room.mkdir()
     for day in range(10, 30):
         (folder / f"store-2020-01-{day}T02-30-00").touch()
     _, *words = shell(
@@ -215,6 +216,8 @@ def test_copies_of_the_night(pilot: Pilot) -> None:
         "ExecStart",
         ("%S/lnsd/store", pilot.program.store),
         ("%S/bozintar-copies", str(folder)),
+        ("%t/bozintar-copy", str(room)),
+        (" $COPY_WORDS", ""),
         ("/usr/bin/lnsd", pilot.program.path),
     )
     copy = pilot.own("copy", *words).start()
