@@ -31,9 +31,9 @@ SIZES = {
     "docs": (0, 42500),
     "examples": (2100, 8500),
     "packaging": (1200, 0),
-    "pilot": (13700, 6300),
+    "pilot": (14200, 6300),
     "python": (3700, 0),
-    "tests": (28050, 2850),
+    "tests": (28650, 2850),
     "tools": (8350, 950),
 }
 # Debian's tools, with the settings of pyproject.toml

@@ -88,7 +88,7 @@ def of_gateways(network: Network, now: float) -> Iterator[Problem]:
     """Gateways without a link, of those that were there lately."""
     for gateway in network.gateways.values():
         is_recent = not gateway.last or now - gateway.last < GATEWAY_DAYS * DAY
-        if gateway.is_linked is False and is_recent:
+        if gateway.is_missed and is_recent:
             what = f"Gateway {network.name(gateway.eui)} is offline"
             why = f"It has no link. Last uplink {ago(gateway.last, now)}"
             yield Problem(GRAVE, what, why, "Check its power and its network.", "/gateways")
@@ -140,6 +140,8 @@ def of_joins(network: Network, now: float) -> Iterator[Problem]:
     waiting: Counter[int] = Counter()
     for refused in network.refused.values():
         is_open = refused.kind == "join" and not refused.is_over and now - refused.last < DAY
+        known = network.devices.get(refused.sender)
+        is_open = is_open and not (known and known.hidden)
         if is_open and refusal(refused.number).needs_attention:
             waiting[refused.number] += 1
     for number, count in sorted(waiting.items()):

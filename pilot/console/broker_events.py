@@ -12,7 +12,7 @@ from bozintar.fields import Wrong
 
 from . import history, mac_commands
 from .devices import Adaption, Device, Report, Session, Uplink
-from .network import Network
+from .network import NAME_LENGTH, Network, shown
 from .repeats import READ
 
 TOPICS = ["application/+/device/+/event/+"]
@@ -38,12 +38,12 @@ def take(network: Network, topic: str, payload: bytes) -> None:
         most = MOST_DEVICES * len(network.servers)
         if found[2].upper() not in network.devices and len(network.devices) >= most:
             raise Wrong("too many devices")
-        device = network.devices.get(found[2].upper()) or Device(found[2].upper())
+        device = network.devices.get(found[2].upper()) or network.new(found[2].upper())
         device.store = device.store or store_of(network, said)
         taker(network, device, said)
         # only what was understood makes a device known
-        device.application = found[1]
         network.devices.setdefault(device.eui, device)
+        network.take_label(device.eui, name_of(network, device.eui, said), found[1])
 
 
 def store_of(network: Network, said: dict) -> str:
@@ -51,6 +51,13 @@ def store_of(network: Network, said: dict) -> str:
     info = said.get("deviceInfo")
     name = info.get("store") if isinstance(info, dict) else None
     return name if isinstance(name, str) and name in network.servers else ""
+
+
+def name_of(network: Network, eui: str, said: dict) -> str:
+    """The name that an event has; the last one if it has none that is a text."""
+    info = said.get("deviceInfo")
+    name = info.get("deviceName") if isinstance(info, dict) else None
+    return shown(name)[:NAME_LENGTH] if isinstance(name, str) else network.labelled(eui)
 
 
 def take_up(network: Network, device: Device, said: dict) -> None:

@@ -1,7 +1,7 @@
 """The devices that a page lists: filters, search, sorting and pages."""
 
 from collections.abc import Callable, Mapping
-from dataclasses import dataclass
+from dataclasses import dataclass, replace
 from urllib.parse import urlencode
 
 from .devices import Device
@@ -16,6 +16,7 @@ FILTERS = {
     "weak": "Weak signal",
     "battery": "Low battery",
     "alone": "Left alone by ADR",
+    "hidden": "Hidden from alarms",
 }
 PER_PAGE, LONGEST_SEARCH = 50, 100
 Key = Callable[[Device], tuple]
@@ -28,6 +29,7 @@ class Query:
     show: str = "all"
     text: str = ""
     sort: str = "seen"
+    application: str = ""
     page: int = 1
 
     @classmethod
@@ -38,12 +40,14 @@ class Query:
             show if show in FILTERS else "all",
             query.get("q", "").strip()[:LONGEST_SEARCH],
             sort if sort in SORTS else "seen",
+            query.get("application", "")[:2],
             int(page) if page.isascii() and page.isdigit() and len(page) < 7 else 1,
         )
 
     def link(self, **other: str | int) -> str:
         """The address of the same page with something else."""
         values: dict[str, str | int] = {"show": self.show, "q": self.text, "sort": self.sort}
+        values["application"] = self.application
         return f"/devices?{urlencode({**values, **other})}"
 
 
@@ -76,6 +80,7 @@ class Listed:
     found: int
     pages: int
     counts: dict[str, int]
+    applications: list[str]
 
 
 def filters_of(device: Device, now: float) -> list[str]:
@@ -88,6 +93,7 @@ def filters_of(device: Device, now: float) -> list[str]:
         "weak": device.is_weak,
         "battery": device.has_low_battery,
         "alone": device.is_left_alone,
+        "hidden": bool(device.hidden),
     }
     return ["all", *(name for name, is_so in passed.items() if is_so)]
 
@@ -98,13 +104,15 @@ def listed(network: Network, query: Query, now: float) -> Listed:
     sorts: dict[str, list[Device]] = {name: [] for name in FILTERS}
     for device in network.devices.values():
         text = f"{device.eui} {network.names.get(device.eui, '')} {device.store}".lower()
-        if all(word in text for word in words):
+        is_of = query.application in ("", device.application)
+        if is_of and all(word in text for word in words):
             for name in filters_of(device, now):
                 sorts[name].append(device)
     found = sorted(sorts[query.show], key=SORTS[query.sort](network))
     pages = max(1, -(-len(found) // PER_PAGE))
     page = min(max(query.page, 1), pages)
-    query = Query(query.show, query.text, query.sort, page)
+    query = replace(query, page=page)
+    numbers = {device.application for device in network.devices.values()} - {""}
     counts = {name: len(devices) for name, devices in sorts.items()}
     shown = found[(page - 1) * PER_PAGE : page * PER_PAGE]
-    return Listed(query, shown, len(found), pages, counts)
+    return Listed(query, shown, len(found), pages, counts, sorted(numbers, key=int))

@@ -12,6 +12,8 @@ RECENT, LEAST_GAPS = 20, 3
 LATE, LEAST_LATE = 3.0, 120.0
 # for how long a device without a session is missed, in seconds: it may be retired
 MISSED = 31 * 86_400.0
+# why an operator hides a device or a gateway from alarms
+HIDDEN, RETIRED = "hidden", "retired"
 # below this margin in dB a device is weak; below this percentage a battery is low
 WEAK, LOW_BATTERY = 3.0, 15.0
 
@@ -87,6 +89,7 @@ class Device:
     # the application that has it, once an event came; and its store, if there are several
     application: str = ""
     store: str = ""
+    hidden: str = ""
     # of the server's list: JoinNonces, counters, items
     granted: int = 0
     session: int | None = None
@@ -146,23 +149,24 @@ class Device:
 
     def is_silent(self, now: float) -> bool:
         """Whether its next uplink is long overdue."""
-        if not (self.last and self.interval and (self.is_joined or self.is_missed(now))):
+        is_awaited = self.is_missed(now) or self.is_joined and not self.hidden
+        if not (self.last and self.interval and is_awaited):
             return False
         return now - self.last > max(LATE * self.interval, LEAST_LATE)
 
     def is_missed(self, now: float) -> bool:
         """Whether it was heard lately, and has lost its session, as all have after a restore."""
-        return self.state == "lost" and now - self.last < MISSED
+        return self.state == "lost" and now - self.last < MISSED and not self.hidden
 
     @property
     def is_weak(self) -> bool:
         """Whether it is hardly heard at its data rate."""
-        return self.margin is not None and self.margin < WEAK
+        return self.margin is not None and self.margin < WEAK and not self.hidden
 
     @property
     def has_low_battery(self) -> bool:
         """Whether its last report had a low battery."""
-        return self.report is not None and self.report.is_low
+        return self.report is not None and self.report.is_low and not self.hidden
 
     @property
     def is_left_alone(self) -> bool:
@@ -194,6 +198,9 @@ class Gateway:
     eui: str
     # None if the console doesn't know: the server says only how many gateways have a link
     is_linked: bool | None = None
+    hidden: str = ""
+    # the bridges in whose lists it is, or was
+    bridges: set[str] = field(default_factory=set)
     # whether its links to many stores come and go, so that only its bridge knows whether it is
     # there
     is_hubbed: bool = False
@@ -206,6 +213,11 @@ class Gateway:
     hours: dict[int, GatewayHour] = field(default_factory=dict)
     # whether the present hour has changed since it was saved
     is_changed: bool = False
+
+    @property
+    def is_missed(self) -> bool:
+        """Whether it is offline, and nobody has hidden that."""
+        return self.is_linked is False and not self.hidden
 
     @property
     def best(self) -> int:

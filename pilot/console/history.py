@@ -29,6 +29,9 @@ CREATE TABLE IF NOT EXISTS gateway_hours (gateway TEXT, hour INTEGER, best INTEG
 CREATE TABLE IF NOT EXISTS adaptions (device TEXT PRIMARY KEY, came REAL, rate INTEGER,
     power INTEGER, is_sure INTEGER, asked TEXT, tries INTEGER, why TEXT, until INTEGER);
 CREATE TABLE IF NOT EXISTS names (eui TEXT PRIMARY KEY, name TEXT);
+CREATE TABLE IF NOT EXISTS labels (device TEXT PRIMARY KEY, name TEXT, application TEXT);
+CREATE TABLE IF NOT EXISTS hidden (eui TEXT PRIMARY KEY, why TEXT);
+CREATE TABLE IF NOT EXISTS listed (gateway TEXT, bridge TEXT, PRIMARY KEY (gateway, bridge));
 CREATE TABLE IF NOT EXISTS nonces (device TEXT PRIMARY KEY, nonce INTEGER);
 CREATE TABLE IF NOT EXISTS repeats (kind TEXT, device TEXT, count INTEGER, last REAL,
     is_open INTEGER, PRIMARY KEY (kind, device)) WITHOUT ROWID;
@@ -44,6 +47,11 @@ MINUTE = "INSERT OR REPLACE INTO minutes VALUES (?, ?, ?, ?, ?, ?, ?)"
 HOUR = "INSERT OR REPLACE INTO gateway_hours VALUES (?, ?, ?, ?, ?)"
 ADAPTION = "INSERT OR REPLACE INTO adaptions VALUES (?, ?, ?, ?, ?, ?, ?, ?, ?)"
 NAME = "INSERT OR REPLACE INTO names VALUES (?, ?)"
+LABEL = "INSERT OR REPLACE INTO labels VALUES (?, ?, ?)"
+HIDDEN = "INSERT OR REPLACE INTO hidden VALUES (?, ?)"
+LISTED = "INSERT OR IGNORE INTO listed VALUES (?, ?)"
+# of a gateway that is forgotten
+FORGET = ("DELETE FROM gateway_hours WHERE gateway = ?", "DELETE FROM listed WHERE gateway = ?")
 NONCE = "INSERT OR REPLACE INTO nonces VALUES (?, ?)"
 REPEATED = "INSERT OR REPLACE INTO repeats VALUES (?, ?, ?, ?, ?)"
 MONTH, YEAR = 31 * 86_400, 366 * 86_400

@@ -11,6 +11,7 @@ from adapting.rule import Setting
 from . import history
 from .devices import (
     RECENT,
+    RETIRED,
     Adaption,
     Device,
     Gateway,
@@ -72,7 +73,14 @@ class Network:
         self.servers = servers_of(net_ids or {"": None})
         self.devices: dict[str, Device] = {}
         self.gateways: dict[str, Gateway] = {}
+        # the names to show: those of the form or a file before those that events have
         self.names: dict[str, str] = {}
+        self.own_names: dict[str, str] = {}
+        self.labels: dict[str, tuple[str, str]] = {}
+        self.hidden: dict[str, str] = {}
+        # gateways in the lists of the bridges that run, and those that were forgotten
+        self.listed: set[str] = set()
+        self.forgotten: set[str] = set()
         self.refused: dict[tuple[int, str], Refused] = {}
         self.repeats = Repeats(kept)
         self.events: deque[Event] = deque(maxlen=MOST_EVENTS)
@@ -85,9 +93,14 @@ class Network:
 
     def load(self) -> None:
         """Takes what the history has kept."""
+        for eui, name, application in self.kept.rows("SELECT * FROM labels"):
+            self.labels[eui] = name, application
+            self.names[eui] = name
+        for eui, name in self.kept.rows("SELECT eui, name FROM names"):
+            self.call(eui, shown(name))
+        self.hidden = {eui: why for eui, why in self.kept.rows("SELECT * FROM hidden")}
         for device, session, *counts in self.kept.rows(SESSIONS):
             self.device(device).sessions[session] = Session(*counts)
-        self.names = {eui: name for eui, name in self.kept.rows("SELECT eui, name FROM names")}
         first = int(time.time() // 60) - MOST_MINUTES
         for minute, *values in self.kept.rows(MINUTES, first):
             self.minutes[minute] = Minute(*values)
@@ -95,6 +108,8 @@ class Network:
             gateway = self.gateway(eui)
             gateway.hours[hour] = GatewayHour(*values)
             gateway.last = max(gateway.last, gateway.hours[hour].last)
+        for eui, bridge in self.kept.rows("SELECT * FROM listed"):
+            self.gateway(eui).bridges.add(bridge)
         for device in self.devices.values():
             rows = self.kept.rows(UPLINKS, device.eui, RECENT)
             for row in reversed(rows):
@@ -109,11 +124,31 @@ class Network:
 
     def device(self, eui: str) -> Device:
         """The device of a DevEUI, which may be new."""
-        return self.devices.setdefault(eui, Device(eui))
+        return self.devices.get(eui) or self.devices.setdefault(eui, self.new(eui))
+
+    def new(self, eui: str) -> Device:
+        """A device that isn't in the list yet, with what the history has of it."""
+        application = self.labels.get(eui, ("", ""))[1]
+        return Device(eui, application=application, hidden=self.hidden.get(eui, ""))
 
     def gateway(self, eui: str) -> Gateway:
         """The gateway of an EUI, which may be new."""
-        return self.gateways.setdefault(eui, Gateway(eui, is_hubbed=self.has_stores))
+        made = Gateway(eui, is_hubbed=self.has_stores, hidden=self.hidden.get(eui, ""))
+        return self.gateways.setdefault(eui, made)
+
+    def hide(self, eui: str, why: str) -> None:
+        """Hides a device or a gateway from alarms, or shows it again for the empty reason."""
+        self.hidden[eui] = why
+        self.kept.add(history.HIDDEN, eui, why)
+        if found := self.devices.get(eui) or self.gateways.get(eui):
+            found.hidden = why
+
+    def forget_gateway(self, eui: str) -> None:
+        """Forgets a gateway that is in no list any more."""
+        if self.gateways.pop(eui, None):
+            self.forgotten.add(eui)
+            for statement in history.FORGET:
+                self.kept.add(statement, eui)
 
     def name(self, eui: str) -> str:
         """The name of a device or a gateway, or its EUI if it has none."""
@@ -121,13 +156,32 @@ class Network:
 
     def rename(self, eui: str, name: str) -> None:
         """Gives a device or a gateway a name."""
-        self.names[eui] = name[:NAME_LENGTH]
-        self.kept.add(history.NAME, eui, self.names[eui])
+        self.call(eui, shown(name)[:NAME_LENGTH])
+        self.kept.add(history.NAME, eui, self.own_names[eui])
+
+    def call(self, eui: str, name: str) -> None:
+        """A device or a gateway has this name of its own, or none."""
+        self.own_names[eui] = name
+        self.names[eui] = name or self.labelled(eui)
+
+    def labelled(self, eui: str) -> str:
+        """The name that the last event with one had."""
+        return self.labels[eui][0] if eui in self.labels else ""
+
+    def take_label(self, eui: str, name: str, application: str) -> None:
+        """What an event says of a device: its name in the list of devices, and its application."""
+        device = self.device(eui)
+        device.application = application
+        if (name, application) != self.labels.get(eui):
+            self.labels[eui] = name, application
+            self.kept.add(history.LABEL, eui, name, application)
+            if not self.own_names.get(eui):
+                self.names[eui] = name
 
     def names_of(self, rows: Iterable[tuple[str, str]]) -> None:
         """Takes names of a file, except of what has a name already."""
         for eui, name in rows:
-            if eui not in self.names:
+            if eui not in self.own_names:
                 self.rename(eui, name)
 
     # what happens
@@ -270,9 +324,16 @@ class Network:
         return [refused for (_, sender), refused in self.refused.items() if sender == eui]
 
     def accept_join(self, eui: str) -> None:
-        """A join was accepted: what was refused before is over."""
+        """A join was accepted: what was refused before is over, and the device isn't retired."""
+        if self.device(eui).hidden == RETIRED:
+            self.hide(eui, "")
         for refused in self.refused_of(eui):
             refused.is_over = refused.is_over or refused.kind == "join"
+
+
+def shown(name: str) -> str:
+    """A name without signs that can't be seen, some of which turn the rest of a line around."""
+    return "".join(filter(str.isprintable, name))
 
 
 def oldest_hour() -> int:

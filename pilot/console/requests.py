@@ -2,9 +2,11 @@
 machine. AppKeys go this way, and never over the broker."""
 
 import asyncio
+import os
 import re
 from dataclasses import dataclass
 
+from bozintar.logs import warn
 from bridges.application_events import REFUSALS
 from bridges.asks import HELD, UNCLAIMED
 
@@ -17,7 +19,13 @@ ANOTHER_STORE = (
     "one. The journal of applications-mqtt says what to do."
 )
 UNANSWERED = "No answer came. It may have been done: check before you send it again."
-WITHOUT_ANSWER = {UNCLAIMED: NO_CLAIM, HELD: ANOTHER_STORE}
+# in place of an answer, if the bridge wasn't reached: nothing was asked
+NOT_SENT = "not sent"
+NO_BRIDGE = (
+    "Not sent: the console doesn't reach the bridge. Its journal says why; check systemctl status "
+    "'bozintar-applications-mqtt@*'."
+)
+WITHOUT_ANSWER = {UNCLAIMED: NO_CLAIM, HELD: ANOTHER_STORE, NOT_SENT: NO_BRIDGE}
 
 
 @dataclass(frozen=True)
@@ -40,12 +48,15 @@ class Bridges:
         return sorted(self.sockets, key=int)
 
     async def ask(self, application: str, lines: list[str]) -> list[str]:
-        """Sends requests one after another; the answers, as many as came."""
+        """Sends requests one after another; the answers, as many as came, or that none was sent."""
         found: list[str] = []
+        path = self.sockets.get(application, "")
         try:
-            reader, writer = await asyncio.open_unix_connection(self.sockets[application])
-        except (OSError, KeyError):
-            return found
+            reader, writer = await asyncio.open_unix_connection(path)
+        except OSError as why:
+            reason = os.strerror(why.errno) if why.errno else why
+            warn(f"the bridge of application {application} isn't reached by {path!r}: {reason}")
+            return [NOT_SENT] * len(lines)
         try:
             for line in lines:
                 writer.write(line.encode("ascii") + b"\n")
@@ -53,8 +64,9 @@ class Bridges:
                 if not answer.endswith(b"\n"):
                     break
                 found.append(answer.decode("ascii", "replace").strip())
-        except (OSError, ValueError, asyncio.TimeoutError):
-            pass  # the bridge has ended, or its answer is longer than any
+        except (OSError, ValueError, asyncio.TimeoutError) as why:
+            # the bridge has ended, or its answer is longer than any
+            warn(f"the bridge of application {application} doesn't answer by {path}: {why!r}")
         finally:
             writer.close()
         return found
@@ -65,12 +77,13 @@ class Bridges:
         don't have the device refuse."""
         if application in self.sockets:
             return "".join((await self.ask(application, [line]))[:1])
-        answer = ""
+        found = UNKNOWN_DEVICE
         for each in self.applications:
             answer = "".join((await self.ask(each, [line]))[:1])
-            if answer != UNKNOWN_DEVICE:
-                break
-        return answer
+            if answer not in (UNKNOWN_DEVICE, NOT_SENT):
+                return answer
+            found = NOT_SENT if NOT_SENT in (answer, found) else found
+        return found
 
 
 def answer_of(line: str) -> Answer:

@@ -230,6 +230,8 @@ def take_link(network: Network, server: Server, kind: str, name: str) -> None:
     comes and goes, which is no event."""
     what, _, eui = name.partition(" ")
     if what == "gateway" and EUI.fullmatch(eui):
+        if kind == "ended" and eui in network.forgotten:
+            return
         gateway = network.gateway(eui)
         if not gateway.is_hubbed:
             gateway.is_linked = kind in ("linked", "taken_over")

@@ -18,7 +18,7 @@ from jinja2 import Environment, FileSystemLoader, StrictUndefined
 
 from . import attention, device_list, device_plots, forms, overview, plots, text
 from .access import HEADERS, Access, Refused, User
-from .devices import Device
+from .devices import HIDDEN, RETIRED, Device
 from .network import EVENTS, Event, Network
 from .refusals import refusal
 from .requests import UNANSWERED, Answer, Bridges, answer_of
@@ -32,6 +32,10 @@ DEVICE = "/devices/{eui:[0-9A-Fa-f]{16}}"
 MOST_OUTCOMES, MOST_SHOWN = 100, 30
 OF_DEVICE = EVENTS.replace("FROM events", "FROM events WHERE of = ?")
 SERVER_KINDS = ("server", "link", "dropped", "sync", "write")
+# what the buttons of a form do to alarms, and how the events of that read
+HIDES = {"hide": HIDDEN, "retire": RETIRED, "unhide": ""}
+SAYS = {HIDDEN: "Hidden from alarms", RETIRED: "Retired: hidden from alarms", "": "Alarms again"}
+STILL_THERE = "Not forgotten: it has a link, or a bridge still has it in its list of gateways."
 Handler = Callable[[web.Request], Awaitable[web.StreamResponse]]
 
 
@@ -114,7 +118,7 @@ class Site:
             made.router.add_get(path, handler)
         made.router.add_post(DEVICE, self.command)
         made.router.add_post("/", self.confirm)
-        made.router.add_post("/gateways", self.name_gateway)
+        made.router.add_post("/gateways", self.change_gateway)
         made.router.add_post("/add", self.provision)
         return made
 
@@ -294,12 +298,17 @@ class Site:
         log(f"{user.name} at {request.remote}: {eui} {words}")
         self.network.note("write", eui, f"{words}, by {user.name}")
 
-    def rename(self, request: web.Request, eui: str) -> web.HTTPSeeOther:
-        """A form has a name."""
+    def change(self, request: web.Request, eui: str) -> web.HTTPSeeOther:
+        """A form has a name of a device or a gateway, hides it from alarms, or shows it again."""
+        what, user = request["form"].get("what", ""), request["user"]
+        if what in HIDES:
+            self.network.hide(eui, HIDES[what])
+            self.note(request, eui, SAYS[HIDES[what]])
+            self.found_at = 0.0
+            return self.done(request, Outcome(user.name, [("", Answer(True, "Saved."))]))
         name = " ".join(request["form"].get("name", "").split())
         self.network.rename(eui, name)
         self.note(request, eui, f"Name set to {self.network.names[eui]!r}")
-        user: User = request["user"]
         return self.done(request, Outcome(user.name, [("", Answer(True, "Saved."))]))
 
     async def confirm(self, request: web.Request) -> web.StreamResponse:
@@ -313,18 +322,26 @@ class Site:
         self.found_at = 0.0
         raise self.done(request, Outcome(user.name, [("", answer)]))
 
-    async def name_gateway(self, request: web.Request) -> web.StreamResponse:
-        """Names a gateway."""
-        eui = request["form"].get("eui", "")
+    async def change_gateway(self, request: web.Request) -> web.StreamResponse:
+        """Names, hides or forgets a gateway."""
+        eui, user = request["form"].get("eui", ""), request["user"]
         if eui not in self.network.gateways:
             raise Refused(404, "No such gateway is known.")
-        raise self.rename(request, eui)
+        if request["form"].get("what") != "forget":
+            raise self.change(request, eui)
+        is_gone = eui not in self.network.listed and not self.network.gateways[eui].is_linked
+        answer = Answer(is_gone, "Forgotten." if is_gone else STILL_THERE)
+        if is_gone:
+            self.network.forget_gateway(eui)
+            self.note(request, eui, "Forgotten")
+        self.found_at = 0.0
+        raise self.done(request, Outcome(user.name, [("", answer)]))
 
     async def command(self, request: web.Request) -> web.StreamResponse:
-        """Names a device, or sends a command to it."""
+        """Names or hides a device, or sends a command to it."""
         device, form, user = self.one(request), request["form"], request["user"]
-        if form.get("what") == "name":
-            raise self.rename(request, device.eui)
+        if form.get("what") in ("name", *HIDES):
+            raise self.change(request, device.eui)
         try:
             wanted = forms.command(device.eui, form)
         except ValueError as why:

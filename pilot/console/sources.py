@@ -11,7 +11,7 @@ from bozintar.broker import Access, Broker
 from bozintar.fields import Wrong
 from bozintar.logs import log
 
-from . import broker_events, server_lines
+from . import broker_events, history, server_lines
 from .network import Network
 from .servers import Server
 
@@ -21,7 +21,7 @@ STATUS_EVERY, DEVICES_EVERY = 2.0, 10.0
 # how long until the lookout is connected to again
 PAUSE = 1.0
 OF_GATEWAY = re.compile(
-    r'pilot_gateway_(copies_total|linked)\{bridge="[a-z]+",gateway="([0-9A-F]{16})"\} '
+    r'pilot_gateway_(copies_total|linked)\{bridge="([a-z]+)",gateway="([0-9A-F]{16})"\} '
     r"([0-9.e+]{1,20})"
 )
 # in a folder of all, for example node_exporter's, or in one of each bridge
@@ -138,6 +138,7 @@ class Sources:
                 found = await asyncio.to_thread(counts_in, self.counts)
                 take_copies(self.network, found.copies)
                 take_linked(self.network, found.linked)
+                take_lists(self.network, found.lists)
             self.network.save_minutes()
             await asyncio.sleep(STATUS_EVERY)
 
@@ -152,6 +153,8 @@ class OfGateways:
 
     copies: dict[str, int] = field(default_factory=dict)
     linked: dict[str, bool] = field(default_factory=dict)
+    # the gateways in the list of each bridge that runs
+    lists: dict[str, set[str]] = field(default_factory=dict)
 
 
 def counts_in(folder: str) -> OfGateways:
@@ -164,12 +167,13 @@ def counts_in(folder: str) -> OfGateways:
                 samples = OF_GATEWAY.findall(text.read(MOST_COUNTS))
         except (OSError, UnicodeError):
             continue
-        for name, eui, value in samples:
+        for name, bridge, eui, value in samples:
             try:
                 number = int(float(value))
             except (ValueError, OverflowError):
                 continue  # no number after all
             if name == "linked":
+                found.lists.setdefault(bridge, set()).add(eui)
                 found.linked[eui] = found.linked.get(eui, False) or number > 0
             else:
                 found.copies[eui] = found.copies.get(eui, 0) + number
@@ -184,6 +188,20 @@ def take_linked(network: Network, linked: dict[str, bool]) -> None:
             if gateway.is_linked is not None and gateway.is_linked != is_linked:
                 network.note("link", eui, "Online" if is_linked else "Offline")
             gateway.is_linked = is_linked
+
+
+def take_lists(network: Network, lists: Mapping[str, set[str]]) -> None:
+    """Forgets the gateways that a bridge had in its list, and that no bridge has any more."""
+    network.listed = set().union(*lists.values())
+    for bridge, euis in lists.items():
+        for eui in euis:
+            if bridge not in network.gateway(eui).bridges:
+                network.gateway(eui).bridges.add(bridge)
+                network.kept.add(history.LISTED, eui, bridge)
+    for gateway in list(network.gateways.values()):
+        if gateway.bridges & lists.keys() and gateway.eui not in network.listed:
+            network.forget_gateway(gateway.eui)
+            network.note("link", gateway.eui, "Forgotten: it isn't in the list of gateways")
 
 
 def take_copies(network: Network, counts: dict[str, int]) -> None:

@@ -130,9 +130,9 @@ def test_events_of_adr(console: Console) -> None:
 def test_adr_over_a_restart(console: Console, said: dict) -> None:
     """A console that starts again knows what adr has reported."""
     console.events(event(DEVICE, "adr", said))
-    assert Network(console.kept).devices[DEVICE] == replace(
-        Device(DEVICE), adaption=console.network.devices[DEVICE].adaption
-    )
+    adaption = console.network.devices[DEVICE].adaption
+    again = Network(console.kept).devices[DEVICE]
+    assert again == replace(Device(DEVICE, application="3"), adaption=adaption)
 
 
 @pytest.mark.parametrize("topic, payload", WRONG)

@@ -1,6 +1,8 @@
 """Forms: the lines that they send to the bridge, by docs/FORMATS.md, and what pages show of the
 answers."""
 
+import os
+
 import aiohttp
 import pytest
 
@@ -10,6 +12,7 @@ PATH = f"/devices/{DEVICE}"
 NEW = "70B3D57ED0000005"
 DONE = "Queued. It is sent after the device's next uplink."
 NO_ANSWER = "No answer came. It may have been done: check before you send it again."
+NOT_SENT = "Not sent: the console doesn't reach the bridge. Its journal says why;"
 
 
 @pytest.mark.parametrize(
@@ -112,17 +115,30 @@ def test_loading_again(console: Console) -> None:
     assert DONE not in console.get(f"{PATH}?done={key}").text
 
 
-def test_bridge_away(console: Console) -> None:
-    """If the bridge is away, the form says that no answer came."""
+def test_bridge_away(console: Console, capfd: pytest.CaptureFixture[str]) -> None:
+    """If the bridge can't be reached, nothing was sent, and the page and the log say so."""
     console.listener.close()
     console.run(console.listener.wait_closed())
-    assert NO_ANSWER in console.send(PATH, what="status").text
+    assert NOT_SENT in console.send(PATH, what="status").text
     form = {"eui": NEW, "join": JOIN_EUI, "key": KEY, "application": "3"}
-    assert f"{NEW}: {NO_ANSWER}" in console.send("/add", **form).text
+    assert f"{NEW}: {NOT_SENT}" in console.send("/add", **form).text
+    why = "the bridge of application 3 isn't reached by"
+    assert f"{why} {console.socket!r}: Connection refused" in capfd.readouterr().out
+    os.unlink(console.socket)
+    assert NOT_SENT in console.send(PATH, what="status").text
+    assert f"{console.socket!r}: No such file or directory" in capfd.readouterr().out
+
+
+def test_no_answer(console: Console, capfd: pytest.CaptureFixture[str]) -> None:
+    """If the bridge ends before it answers, the log says so."""
+    console.bridge.says = ["x" * 100_000]
+    assert NO_ANSWER in console.send(PATH, what="status").text
+    assert "the bridge of application 3 doesn't answer by" in capfd.readouterr().out
 
 
 def test_other_application(console: Console) -> None:
-    """A device's requests go to its own application, also if no bridge has it."""
+    """A device's requests go to its own application, also if no bridge has it. One that isn't
+    reached may be the device's."""
     console.events(up(DEVICE, 0))
     assert console.network.devices[DEVICE].application == "3"
     console.network.devices[DEVICE].application = ""
@@ -130,6 +146,10 @@ def test_other_application(console: Console) -> None:
     console.bridge.says = ["refused 7"]
     assert DONE in console.send(PATH, what="status").text
     assert console.bridge.asked == [f"mac {DEVICE} 06"] * 2
+    console.site.bridges.sockets["0"] = f"{console.socket}-0"
+    assert DONE in console.send(PATH, what="status").text
+    console.bridge.says = ["refused 7"] * 2
+    assert NOT_SENT in console.send(PATH, what="status").text
 
 
 def test_names(console: Console) -> None:
@@ -225,7 +245,7 @@ def test_many_devices(console: Console, is_file: bool) -> None:
         ({"lines": ""}, "There was no device in the form."),
         ({"lines": "# nothing\n\n"}, "There was no device in the form."),
         ({"lines": "a\n" * 4097}, "There are more than 4096 devices."),
-        ({"lines": f"{NEW},{JOIN_EUI},{KEY}", "application": "9"}, NO_ANSWER),
+        ({"lines": f"{NEW},{JOIN_EUI},{KEY}", "application": "9"}, NOT_SENT),
     ],
 )
 def test_wrong_lines(console: Console, form: dict, why: str) -> None:

@@ -71,6 +71,37 @@ def test_user(unit: Path) -> None:
     )
 
 
+def all_of(name: str, key: str) -> list[str]:
+    """All values of a setting of a unit."""
+    found = re.findall(rf"^{key}=((?:.*\\\n)*.*)", text_of(name), re.MULTILINE)
+    return [value.replace("\\\n", "") for value in found]
+
+
+@pytest.mark.parametrize("name", NAMES)
+def test_folders(name: str) -> None:
+    """No unit changes its folders below /run before it starts: systemd sets their owner and mode
+    once more for each command (systemd.exec(5)), so that would be lost."""
+    folders = {f"%t/{folder}" for of in all_of(name, "RuntimeDirectory") for folder in of.split()}
+    for words in map(shlex.split, all_of(name, "ExecStartPre")):
+        if folders & set(words):
+            assert not re.search(r"\b(chgrp|chmod|chown|install -d)\b", " ".join(words)), words
+
+
+SOCKETS = {"bozintar-applications-mqtt@": "bozintar-ask-%i", "bozintar-lookout": "bozintar-look"}
+
+
+@pytest.mark.parametrize("unit", SOCKETS)
+def test_console_reaches(unit: str) -> None:
+    """The console's user reaches the sockets of the bridges and of the lookout, by the group with
+    which systemd makes their folders. A socket is for its user and its group."""
+    unit += ".service"
+    assert SOCKETS[unit.removesuffix(".service")] in line_of(unit, "RuntimeDirectory").split()
+    assert int(line_of(unit, "RuntimeDirectoryMode"), 8) & 0o070 == 0o050
+    members = (PILOT.parent / "packaging/debian/bozintar.sysusers").read_text(encoding="utf-8")
+    user = line_of("bozintar-web-console.service", "User")
+    assert f"m {user} {line_of(unit, 'Group')}\n" in members
+
+
 @pytest.mark.parametrize("name", BY_TLS)
 def test_time(name: str) -> None:
     """What uses certificates starts once the time is set."""
