@@ -3,7 +3,9 @@
 import time
 from collections import Counter
 from collections.abc import Iterator
+from contextlib import suppress
 from dataclasses import dataclass
+from pathlib import Path
 
 from .network import DAY, GATEWAY_DAYS, Network
 from .refusals import UNKNOWN_DEV_EUI, refusal
@@ -16,6 +18,8 @@ BROKEN, GRAVE, WARNING, NOTE = 0, 1, 2, 3
 # for how many minutes it needs attention
 SLOW_SYNC, SLOW_MINUTES = 200, 60
 NEARLY_FULL = 0.9
+# numbers about the mark of the server's store, from its unit
+MARK = Path("/run/bozintar-mark/mark.prom")
 # what came twice: its level, what it is, what it means, and what to do
 REPEATS = {
     JOINED: (
@@ -51,7 +55,8 @@ class Problem:
 def problems(network: Network) -> list[Problem]:
     """All of them, the gravest first."""
     now = time.time()
-    found = [*of_repeats(network, now), *of_programs(network), *of_gateways(network, now)]
+    found = [*of_repeats(network, now), *of_mark(), *of_programs(network)]
+    found += of_gateways(network, now)
     found += [*of_devices(network, now), *of_joins(network, now), *of_disk(network)]
     return sorted(found, key=lambda problem: problem.level)
 
@@ -64,6 +69,15 @@ def of_repeats(network: Network, now: float) -> Iterator[Problem]:
             why = f"{plural(len(found), 'device')}, {plural(seen, 'time')} in all, last "
             why += f"{network.name(last.device)} {ago(last.last, now)}: {meaning}"
             yield Problem(level, what, why, remedy, f"/devices/{last.device}", kind, seen)
+
+
+def of_mark() -> Iterator[Problem]:
+    """A store whose mark was lost, as long as nobody has confirmed it."""
+    with suppress(OSError):
+        if "unconfirmed 1" in MARK.read_text(encoding="ascii"):
+            what, why = "The store may be an older one", "the file that would tell it was lost"
+            remedy = "journalctl -u lnsd names the command that confirms the store."
+            yield Problem(GRAVE, what, why, remedy, "/server")
 
 
 def of_programs(network: Network) -> Iterator[Problem]:

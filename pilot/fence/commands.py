@@ -105,6 +105,7 @@ def ended(there: Seen, found: Found, given: argparse.Namespace) -> Fence:
         keeper=secrets.token_hex(8),
         host=given.host or os.uname().nodename,
         file=os.path.abspath(given.file),
+        generation=found.generation,
     )
 
 

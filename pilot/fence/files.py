@@ -35,7 +35,7 @@ def home_of(file: str, machine_id: str) -> str:
     )
     inode, _, made = said.stdout.strip().partition(" ")
     if said.returncode or not inode.isdecimal():
-        raise NoStore(said.stderr.strip() or "stat says nothing")
+        raise OSError(0, said.stderr.strip() or "stat says nothing", file)
     if not made.strip("0."):  # the file system doesn't keep it
         made = f"fs{os.statvfs(file).f_fsid:x}"
     return f"{machine_id}:{inode}:{made}"
@@ -58,19 +58,17 @@ class Areas:
             raise NoStore("it is cut off")
         return found
 
-    def live(self) -> int:
-        """Where the live area begins: that of the greater generation."""
+    def live(self) -> tuple[bytes, int]:
+        """The header of the live area, and where it begins: that of the greater generation."""
         begins = (SUPERBLOCK, SUPERBLOCK + self.length)
-        heads = {begin: self.read(begin, 10) for begin in begins}
-        are_open = [begin for begin in begins if heads[begin][:1] == OPEN]
+        heads = [(self.read(begin, HEADER), begin) for begin in begins]
+        are_open = [area for area in heads if area[0][:1] == OPEN]
         if not are_open:
             raise NoStore("no area is open")
-        return max(are_open, key=lambda begin: heads[begin][2:])
+        return max(are_open, key=lambda area: area[0][2:10])
 
-    def last(self) -> int:
+    def last(self, head: bytes, begin: int) -> int:
         """The number of the last decision in it: that of the records, or of the last batch."""
-        begin = self.live()
-        head = self.read(begin, HEADER)
         number = int.from_bytes(head[10:18], "big")
         place = begin + HEADER + int.from_bytes(head[22:30], "big")
         while self.read(place, 1) == OPEN:
@@ -81,11 +79,15 @@ class Areas:
 
 
 def found(file: str, home: str, machine_id: str) -> Found:
-    """What a file is. `home` is its name if it is on a replicated volume, else nothing."""
+    """What a file is, once that is on the disk. `home` is its name if it is on a replicated volume,
+    else nothing."""
     with open(file, "rb") as opened:
+        os.fsync(opened.fileno())
         areas = Areas(opened.fileno())
         digest = hashlib.sha256()
         while piece := opened.read(PIECE):
             digest.update(piece)
-        number = areas.last()
-    return Found(areas.net_id, home or home_of(file, machine_id), digest.hexdigest(), number)
+        head, begin = areas.live()
+        number, generation = areas.last(head, begin), int.from_bytes(head[2:10], "big")
+    home = home or home_of(file, machine_id)
+    return Found(areas.net_id, home, digest.hexdigest(), number, generation, head[1])

@@ -4,16 +4,21 @@ from dataclasses import dataclass
 
 from .records import Fence
 
+# the version of the records that this package's lnsd writes
+RECORDS = 2
+
 
 @dataclass(frozen=True)
 class Found:
-    """A file: the NetID of its store, which file it is, the SHA-256 of its bytes, and the number of
-    its last durable decision."""
+    """A file: the NetID of its store, which file it is, the SHA-256 of its bytes, the number of its
+    last durable decision, and of its live area the generation and the version of records."""
 
     net_id: str
     home: str
     digest: str
     number: int
+    generation: int = 0
+    version: int = RECORDS
 
 
 @dataclass(frozen=True)
@@ -53,4 +58,9 @@ def by_fence(fence: Fence, found: Found) -> str:
         return f"another copy: the store was served last from {last}, and didn't end well"
     if found.number < fence.number:
         return f"older than what was durable: it is at {found.number}, and {fence.number} was seen"
+    if found.generation < fence.generation:
+        return f"older: it is at generation {found.generation}, and {fence.generation} was seen"
+    if found.version < RECORDS:
+        which = f"its records have version {found.version}, and {RECORDS} can't be undone"
+        return f"{which}: lnsd list {fence.file} migrates them"
     return ""

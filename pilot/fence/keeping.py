@@ -14,7 +14,6 @@ from bozintar.logs import Seldom, log, warn
 from bozintar.running import on_signals
 
 from . import files
-from .durable import Durable
 from .etcd import Etcd, Gone, NoLease
 from .holds import Hold, Lost, Seen, seen
 from .judging import Found, Word, judge
@@ -157,6 +156,7 @@ class Keeper:
             keeper=secrets.token_hex(8),
             host=self.host,
             file=os.path.abspath(self.given.file),
+            generation=found.generation,
         )
 
 
@@ -166,7 +166,7 @@ class Life:
     def __init__(self, keeper: Keeper, hold: Hold, number: int):
         self.keeper, self.given, self.hold = keeper, keeper.given, hold
         self.server = Server(keeper.lnsd, self.given.listen)
-        self.durable, self.is_over = Durable(number), asyncio.Event()
+        self.number, self.is_over = number, asyncio.Event()
         self.guard: asyncio.TimerHandle | None = None
 
     async def serve(self) -> int | None:
@@ -258,8 +258,8 @@ class Life:
             return
         else:
             await self.keeper.asks(self.hold.grant)
-        number = self.durable.see(await self.keeper.lnsd.status())
-        await self.keeper.asks(self.hold.see, number)
+        self.number = max(self.number, await self.keeper.lnsd.durable())
+        await self.keeper.asks(self.hold.see, self.number)
 
     # its end
 

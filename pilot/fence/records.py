@@ -36,8 +36,8 @@ class Record:
         """The record of a key's text. Fields that are unknown here are of a later version."""
         try:
             given = json.loads(text)
-            values = {one.name: given[one.name] for one in fields(cls)}
-        except (ValueError, KeyError, TypeError) as why:
+            values = {one.name: given.get(one.name, one.default) for one in fields(cls)}
+        except (ValueError, AttributeError) as why:
             raise Unreadable(f"{key} in etcd can't be read: {why!r}") from None
         kinds = {one.name: one.type for one in fields(cls)}
         for name, value in values.items():
@@ -67,6 +67,7 @@ class Fence(Record):
     # for operators
     host: str
     file: str
+    generation: int = 0
 
     @property
     def has_ended_well(self) -> bool:

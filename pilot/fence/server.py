@@ -65,6 +65,11 @@ class Lnsd:
         except (OSError, asyncio.TimeoutError, UnicodeDecodeError):
             return {}
 
+    async def durable(self) -> int:
+        """The number of a decision that is durable, as are all before it; 0 if nobody says it."""
+        number = (await self.status()).get("durable", "")
+        return int(number) if number.isdecimal() else 0
+
     async def asked(self, word: str) -> dict[str, str]:
         """The lines of an answer of the server's control socket."""
         control = f"{os.path.realpath(self.file)}.control"

@@ -1,4 +1,4 @@
-"""What the fence decides, by tables: which file may be served, and which number is durable."""
+"""What the fence decides, by a table: which file may be served."""
 
 import os
 import shutil
@@ -6,7 +6,6 @@ from dataclasses import replace
 from pathlib import Path
 
 import pytest
-from fence.durable import Durable
 from fence.files import home_of
 from fence.judging import Found, Word, judge
 from fence.records import RUNNING, STOPPED, Fence, Record, Serving, Unreadable
@@ -79,6 +78,24 @@ ROWS: tuple[tuple[str, Fence | None, Found, Word, str], ...] = (
         NOTHING,
         "older than what was durable: it is at 39, and 40 was seen",
     ),
+    # a device was retired, which makes no decision
+    ("000007", replace(RUNS, generation=6), replace(FILE, generation=7), NOTHING, ""),
+    (
+        "000007",
+        replace(RUNS, generation=6),
+        replace(FILE, generation=5),
+        NOTHING,
+        "older: it is at generation 5, and 6 was seen",
+    ),
+    # a new program migrates a store after a clean end, and not after another one
+    ("000007", ENDED, replace(FILE, version=1), NOTHING, ""),
+    (
+        "000007",
+        RUNS,
+        replace(FILE, version=1),
+        NOTHING,
+        "its records have version 1, and 2 can't be undone: lnsd list /d07/store migrates them",
+    ),
     # the operator's word, for the life that it names alone
     ("000007", RUNS, OTHER, Word(replaces=3), ""),
     ("000007", ENDED, replace(OTHER, number=2), Word(replaces=3), ""),
@@ -93,19 +110,6 @@ ROWS: tuple[tuple[str, Fence | None, Found, Word, str], ...] = (
     ),
 )
 
-# the number that the store began with, and then statuses: decided, waiting, commits (or durable),
-# each with the number that is durable for sure after it
-LIVES = (
-    ("nothing is written", 7, [(7, 0, 0, 7), (7, 0, 0, 7)]),
-    ("two more commits", 0, [(5, 0, 1, 0), (6, 0, 2, 0), (8, 1, 3, 5), (8, 0, 4, 6), (8, 0, 5, 7)]),
-    ("one more commit", 0, [(5, 0, 1, 0), (6, 0, 2, 0)]),
-    ("what waits isn't handed over", 0, [(9, 4, 1, 0), (9, 0, 3, 5)]),
-    ("two batches of 64 under way", 0, [(1000, 100, 3, 772), (1000, 0, 3, 872)]),
-    ("the later of two at one count", 0, [(5, 0, 1, 0), (7, 0, 1, 0), (7, 0, 3, 7)]),
-    ("never less", 500, [(510, 0, 0, 500), (512, 0, 2, 510), (0, 0, 0, 510)]),
-    ("the server says it", 3, [(9, 0, 1, 4, 4), (9, 0, 9, 8, 8), (9, 0, 9, 2, 8)]),
-)
-
 WRONG = ("", "{", "[]", "{}", '{"address": 1, "life": 1, "host": "", "file": ""}', "null")
 
 
@@ -115,30 +119,14 @@ def test_judge(net_id: str, fence: Fence | None, file: Found, word: Word, due: s
     assert judge(net_id, fence, file, word) == due
 
 
-@pytest.mark.parametrize(
-    "begun, statuses", [row[1:] for row in LIVES], ids=[row[0] for row in LIVES]
-)
-def test_durable(begun: int, statuses: list[tuple[int, ...]]) -> None:
-    """Which number is durable for sure."""
-    durable = Durable(begun)
-    for decided, waiting, commits, *said, due in statuses:
-        status = {"decided": decided, "waiting": waiting, "commits": commits}
-        status |= {"durable": number for number in said}
-        assert durable.see({name: str(value) for name, value in status.items()}) == due
-
-
-@pytest.mark.parametrize("status", [{}, {"decided": "x"}, {"decided": "9", "waiting": "0"}])
-def test_durable_of_a_wrong_status(status: dict[str, str]) -> None:
-    """A status that is cut off changes nothing."""
-    assert Durable(5).see(status) == 5
-
-
 def test_records() -> None:
     """A record is read as it was written; a field of a later version is ignored."""
     for record in (RUNS, ENDED, Serving("h:1", 3, "host1", "/f")):
         text = record.text()
         assert type(record).read("key", text) == record
         assert type(record).read("key", text[:-1] + ', "later": 1}') == record
+    # an earlier keeper wrote no generation
+    assert Fence.read("key", RUNS.text().replace(', "generation": 0', "")) == RUNS
 
 
 @pytest.mark.parametrize("text", WRONG)

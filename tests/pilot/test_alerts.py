@@ -55,7 +55,7 @@ WELL = {
     "lnsd_up": steady(1),
     **{
         FILE % name: growing(60)
-        for name in ("lnsd", "gateways-udp", "router", "readings-3", "adr-3", "door")
+        for name in ("lnsd", "gateways-udp", "router", "readings-3", "adr-3", "door", "mark")
     },
     **{
         f"lnsd_{name}_total": steady(7)
@@ -71,6 +71,7 @@ WELL = {
     **{f"{of}_{name}_total": steady(7) for of, names in COUNTERS.items() for name in names},
     "pilot_copy_seconds": steady(0),
     "pilot_copies_free_bytes": steady(9e9),
+    "pilot_mark_unconfirmed": steady(0),
     "pilot_broker_messages": steady(60),
     "pilot_broker_dropped_messages_total": steady(7),
     "pilot_gateways_mqtt_broker_connected": steady(1),
@@ -102,6 +103,8 @@ WRONG: tuple = (
     ("BridgeHangs", {FILE % "door": steady(0)}),
     ("CopyIsOld", {"pilot_copy_seconds": steady(-2 * 86400)}),
     ("CopiesDiskIsFull", {"pilot_copies_free_bytes": steady(1e8)}),
+    ("MarkIsOld", {FILE % "mark": steady(0)}),
+    ("MarkWasLost", {"pilot_mark_unconfirmed": steady(1)}),
     ("BrokerQueueIsLong", {"pilot_broker_messages": steady(1500)}),
     ("BrokerDrops", {"pilot_broker_dropped_messages_total": growing(1)}),
     ("DoorIsFull", {"pilot_door_too_many_total": growing(1)}),

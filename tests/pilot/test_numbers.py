@@ -9,6 +9,7 @@ from typing import Any
 from bozintar.forwarders import Forwarder
 from bozintar.mqtt import client
 from bozintar.processes import HOST, await_that, free_port
+from fence import marks
 
 from .doors import Doors
 from .field import GATEWAYS
@@ -174,6 +175,7 @@ def test_alerts(doors: Doors, folder: Path) -> None:
     found = of_metrics(folder, f"{HOST}:{pilot.broker_port}") | of_door(doors)
     found = found.union(*(of_bridge(pilot, name) for name in BRIDGES))
     found |= of_stores(pilot, "router") | of_stores(pilot, "applications-mqtt")
+    found |= set(samples(marks.SHOWN.format(0)))
     assert set(ALERTS) <= found, "names that alerts use, and that are numbers"
 
 

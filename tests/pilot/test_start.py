@@ -4,13 +4,14 @@ replaced by an empty one nor served."""
 import os
 import re
 import subprocess
-from collections.abc import Iterator
+from collections.abc import Callable, Iterator
 from pathlib import Path
 from typing import Any
 
 import pytest
 from bozintar.processes import await_that
 from bozintar.server import Program
+from bozintar.words import Address
 
 from .parts import PILOT
 from .test_units import shell, text_of
@@ -24,6 +25,10 @@ LISTEN, OWN = {"LISTEN": "127.0.0.1:0"}, {"NETID": "00002A"}
 WAITS, AGAIN = 4, 3
 
 
+# what is done while the unit serves: with its process, at its address; whether the power is cut
+Then = Callable[[subprocess.Popen, Address], bool]
+
+
 class Unit:
     """The unit's commands, with files of a folder of their own."""
 
@@ -32,9 +37,13 @@ class Unit:
         self.made, self.copies = self.folder / "etc/made", self.folder / "copies"
         for folder in (self.made.parent, self.copies):
             folder.mkdir()
+        self.mark, self.shown = self.folder / "mark/mark", self.folder / "mark.prom"
+        self.mark.parent.mkdir()
         files = {"made": self.made, "copies": self.copies, "word": self.folder / "run/word"}
+        files |= {"mark": self.mark, "shown": self.shown}
         self.files = [f"--{name}={path}" for name, path in files.items()]
         self.files.append(f"--lnsd={server.path}")
+        self.process: subprocess.Popen | None = None
 
     def words(self, key: str, given: dict[str, str]) -> list[str]:
         """The words of a command of the unit, with these settings."""
@@ -50,30 +59,52 @@ class Unit:
         words = self.words(r"ExecStartPre(?==-\+)", given or {})
         return subprocess.run(words, stdout=subprocess.PIPE, text=True, check=True).stdout
 
-    def starts(self, given: dict[str, str] | None = None, **how: Any) -> tuple[int, str]:
+    def starts(
+        self, given: dict[str, str] | None = None, then: Then | None = None, **how: Any
+    ) -> tuple[int, str]:
         """The unit's start with these settings, of which the end is a status and what is printed;
-        or -1 if it serves, and then is stopped."""
+        or -1 if it serves. Then something is done with its process and its address, and it is
+        stopped. What the unit runs after any end follows, but a cut of the power."""
         given = given or {}
         self.look(given)
         log = self.folder / "log"
         with log.open("w") as out:
             words = self.words("ExecStart", given)
-            process = subprocess.Popen(words, stdout=out, stderr=out, **how)
+            process = self.process = subprocess.Popen(words, stdout=out, stderr=out, **how)
         serves = lambda: process.poll() is not None or "listening" in log.read_text()
         await_that("it serves or ends", serves)
-        if process.poll() is None:
+        has_served, is_cut = process.poll() is None, False
+        if has_served:
             self.look()
-            assert self.server.run("stop", self.server.store)[0] == 0
-            assert process.wait(60) == 0
-            return -1, log.read_text()
-        return process.returncode, log.read_text()
+            address = log.read_text().rpartition("listening ")[2].split()[0]
+            is_cut = bool(then and then(process, Address.read(address)))
+            if process.poll() is None:
+                assert self.server.run("stop", self.server.store)[0] == 0
+        status = process.wait(60)
+        if not is_cut:
+            code = "killed" if status < 0 else "exited"
+            self.end_of(EXIT_CODE=code, EXIT_STATUS=str(status))
+        return -1 if has_served else status, log.read_text()
+
+    def clean(self) -> None:
+        """Ends what a trial that failed has left."""
+        if self.process:
+            self.process.kill()
+            self.process.wait()
+
+    def end_of(self, **how: str) -> int:
+        """What the unit runs after any end; its status."""
+        words = self.words("ExecStopPost", {})
+        return subprocess.run(words, env={**os.environ, **how}, check=False).returncode
 
 
 @pytest.fixture
 def unit(program: str) -> Iterator[Unit]:
     """A machine without a store."""
     with Program(program) as made:
-        yield Unit(made)
+        unit = Unit(made)
+        yield unit
+        unit.clean()
 
 
 def settings(*changes: tuple[str, str]) -> dict[str, str]:
