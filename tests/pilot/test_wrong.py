@@ -205,7 +205,10 @@ class Stranger:
     def serve(self) -> None:
         """Greets each link with one of the strange things, in turn, and noise."""
         while True:
-            connection, _ = self.listener.accept()
+            try:
+                connection, _ = self.listener.accept()
+            except OSError:
+                return  # it is shut
             with connection:
                 connection.settimeout(1)
                 try:
@@ -224,6 +227,7 @@ def strangers(seed: int) -> Iterator[list[Stranger]]:
     made = [Stranger(seed), Stranger(seed + 1)]
     yield made
     for stranger in made:
+        stranger.listener.shutdown(socket.SHUT_RDWR)
         stranger.listener.close()
 
 
