@@ -61,10 +61,15 @@ class Command:
         said = fields.table(fields.parsed(body))
         if "devEui" in said and fields.text(said, "devEui").upper() != device:
             raise Wrong("devEui isn't the topic's")
+        return said, Command.identifier_in(said)
+
+    @staticmethod
+    def identifier_in(said: dict) -> str:
+        """The id in the fields of a command."""
         identifier = said.get("id") or ""
         if not isinstance(identifier, str) or len(identifier) > 64:
             raise Wrong("id is no text of at most 64 characters")
-        return said, identifier
+        return identifier
 
     @property
     def is_followed(self) -> bool:
@@ -151,11 +156,26 @@ def identifier(*of: Any) -> str:
     return str(uuid.uuid5(SPACE, " ".join(map(str, of))))
 
 
-def command_in(topic: str, application: int, body: bytes) -> Command:
-    """The command of a message."""
-    found = re.fullmatch(
+def of_topic(topic: str, application: int) -> re.Match[str] | None:
+    """The device and the kind of a command."""
+    return re.fullmatch(
         rf"application/{application}/device/([0-9A-Fa-f]{{16}})/command/(down|mac)", topic
     )
+
+
+def asked_in(topic: str, application: int, body: bytes) -> Command | None:
+    """Whose command a message was meant to be, and its id if that can be read."""
+    found = of_topic(topic, application)
+    try:
+        identifier = Command.identifier_in(fields.table(fields.parsed(body)))
+    except Wrong:
+        identifier = ""
+    return Command(found[1].upper(), identifier) if found else None
+
+
+def command_in(topic: str, application: int, body: bytes) -> Command:
+    """The command of a message."""
+    found = of_topic(topic, application)
     if not found:
         raise Wrong("no command down or mac of a device")
     if found[2] == "down":

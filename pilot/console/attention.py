@@ -7,10 +7,10 @@ from contextlib import suppress
 from dataclasses import dataclass
 from pathlib import Path
 
-from .network import DAY, GATEWAY_DAYS, Network
+from .network import DAY, GATEWAY_DAYS, WRONG_CLOCK, Network
 from .refusals import UNKNOWN_DEV_EUI, refusal
 from .repeats import JOINED, READ
-from .text import ago, plural
+from .text import ago, duration, plural, seen
 
 # the levels, the gravest first: a monitor is alarmed by the first two
 BROKEN, GRAVE, WARNING, NOTE = 0, 1, 2, 3
@@ -92,6 +92,12 @@ def of_programs(network: Network) -> Iterator[Problem]:
         yield Problem(
             GRAVE, "The broker is away", why, "Check systemctl status mosquitto.", "/server"
         )
+    for application, lag in network.clocks.items():
+        if abs(lag) > WRONG_CLOCK:
+            how = f"{duration(abs(lag))} {'slow' if lag > 0 else 'fast'}"
+            what = f"The clock of application {application}'s bridge is {how}"
+            why = "Its events have wrong times, unless the console's own clock is wrong"
+            yield Problem(WARNING, what, why, "Check timedatectl on both machines.", "/devices")
     if network.kept.fault:
         why = f"New history isn't kept: {network.kept.fault}"
         remedy = "Make room on the console's disk."
@@ -104,7 +110,7 @@ def of_gateways(network: Network, now: float) -> Iterator[Problem]:
         is_recent = not gateway.last or now - gateway.last < GATEWAY_DAYS * DAY
         if gateway.is_missed and is_recent:
             what = f"Gateway {network.name(gateway.eui)} is offline"
-            why = f"It has no link. Last uplink {ago(gateway.last, now)}"
+            why = f"It has no link. Last uplink {seen(gateway.last, now)}"
             yield Problem(GRAVE, what, why, "Check its power and its network.", "/gateways")
 
 

@@ -4,6 +4,7 @@ who may publish there may have sent them."""
 import re
 import time
 from collections.abc import Callable
+from datetime import datetime
 from hashlib import blake2b
 
 from adapting.rule import MOST_POWER, MOST_RATE, Setting
@@ -12,7 +13,7 @@ from bozintar.fields import Wrong
 
 from . import history, mac_commands
 from .devices import Adaption, Device, Report, Session, Uplink
-from .network import NAME_LENGTH, Network, shown
+from .network import NAME_LENGTH, WRONG_CLOCK, Network, shown
 from .repeats import READ
 
 TOPICS = ["application/+/device/+/event/+"]
@@ -23,6 +24,9 @@ MOST_PAYLOAD, MOST_TEXT = 10_000, 160
 MOST_DEVICES = 8192
 MOST_COUNTER, MOST_NONCE, MOST_TRIES = 2**32 - 1, 2**24 - 1, 100
 SETTING = (("dr", MOST_RATE), ("txPower", MOST_POWER))
+# the code of an event `log` of an item that waits; and until when after the start of a connection
+# events may have waited in the broker, in seconds
+TOO_LONG, CAUGHT_UP = "ITEM_TOO_LONG", 60.0
 # how the history marks a device with another source of power than a battery
 ON_MAINS = -1.0
 
@@ -44,6 +48,18 @@ def take(network: Network, topic: str, payload: bytes) -> None:
         # only what was understood makes a device known
         network.devices.setdefault(device.eui, device)
         network.take_label(device.eui, name_of(network, device.eui, said), found[1])
+        take_clock(network, found[1], said)
+
+
+def take_clock(network: Network, application: str, said: dict) -> None:
+    """How slow the bridge's clock is beside this one, by an event that didn't wait."""
+    try:
+        lag = time.time() - datetime.fromisoformat(said["time"]).timestamp()
+    except (KeyError, TypeError, ValueError, OverflowError):
+        return
+    has_waited = "delayed" in said or time.time() < network.broker_since + CAUGHT_UP
+    if lag < WRONG_CLOCK or not has_waited:
+        network.clocks[application] = lag
 
 
 def store_of(network: Network, said: dict) -> str:
@@ -143,7 +159,9 @@ def take_mac(network: Network, device: Device, said: dict) -> None:
 def take_mac_queued(network: Network, device: Device, said: dict) -> None:
     """MAC commands wait for the device."""
     text = mac_commands.requests(fields.text(said, "commands")[:256])
-    network.note("mac", device.eui, f"Downlink queued: {text[:MOST_TEXT]}")
+    if text != device.requests:  # adr asks for the same again and again
+        network.note("mac", device.eui, f"Downlink queued: {text[:MOST_TEXT]}")
+    device.requests = text
 
 
 def take_adr(network: Network, device: Device, said: dict) -> None:
@@ -174,7 +192,10 @@ def adaption_of(said: dict) -> Adaption:
 
 def take_log(network: Network, device: Device, said: dict) -> None:
     """Something went wrong."""
-    text = f"{fields.text(said, 'code')[:40]}: {fields.text(said, 'description')}"
+    code, description = fields.text(said, "code")[:40], fields.text(said, "description")
+    if code == TOO_LONG:
+        device.blocked = description[:MOST_TEXT]
+    text = f"{code}: {description}"
     network.note("item", device.eui, f"Error {text[:MOST_TEXT]}")
 
 

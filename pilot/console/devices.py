@@ -96,6 +96,11 @@ class Device:
     last_up: int | None = None
     next_down: int | None = None
     items: int = 0
+    # since when items wait, and why the first one isn't sent, as the bridge says
+    waits_since: float = 0.0
+    blocked: str = ""
+    # the MAC commands that were asked for last
+    requests: str = ""
     heard: int = 0
     uplink: Uplink | None = None
     report: Report | None = None
@@ -120,6 +125,12 @@ class Device:
         if self.session is None:
             return "lost" if self.heard or self.last else "accepted" if self.granted else "never"
         return "again" if self.granted > self.session else "joined"
+
+    def wait(self, items: int, now: float) -> None:
+        """This many items wait for it."""
+        if not items or not self.items:
+            self.waits_since, self.blocked = (now if items else 0.0), ""
+        self.items = items
 
     @property
     def last(self) -> float:

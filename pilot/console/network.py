@@ -31,6 +31,8 @@ MOST_MINUTES, MOST_EVENTS, MOST_SENDERS = 7 * 24 * 60, 300, 2000
 # gateways that were heard in these last days are known after a restart, and are missed
 GATEWAY_DAYS = 7
 NAME_LENGTH = 60
+# how wrong the clock of a bridge may be, in seconds
+WRONG_CLOCK = 3600.0
 SESSIONS = "SELECT device, session, first, last, count FROM sessions"
 GATEWAYS = "SELECT gateway, hour, best, snr_sum, last FROM gateway_hours WHERE hour >= ?"
 UPLINKS = """SELECT came, gateway, snr, rssi, rate FROM uplinks WHERE device = ?
@@ -86,7 +88,11 @@ class Network:
         self.events: deque[Event] = deque(maxlen=MOST_EVENTS)
         self.minutes: dict[int, Minute] = {}
         self.passed: dict[tuple[str, int], tuple[int, list[tuple[int, int]]]] = {}
-        self.is_broker_there = False
+        self.is_broker_there, self.broker_since = False, 0.0
+        # by how many seconds the clock of each application's bridge is slow
+        self.clocks: dict[str, float] = {}
+        # what the files of counts say of copies, certificates and disks: what, of which, how much
+        self.around: list[tuple[str, str, float]] = []
         self.load()
 
     # what the history has
@@ -133,8 +139,11 @@ class Network:
 
     def gateway(self, eui: str) -> Gateway:
         """The gateway of an EUI, which may be new."""
-        made = Gateway(eui, is_hubbed=self.has_stores, hidden=self.hidden.get(eui, ""))
-        return self.gateways.setdefault(eui, made)
+        if eui not in self.gateways:
+            self.forgotten.discard(eui)
+            made = Gateway(eui, is_hubbed=self.has_stores, hidden=self.hidden.get(eui, ""))
+            self.gateways[eui] = made
+        return self.gateways[eui]
 
     def hide(self, eui: str, why: str) -> None:
         """Hides a device or a gateway from alarms, or shows it again for the empty reason."""

@@ -89,7 +89,8 @@ REFUSALS = {
     24: Refusal(
         "UnknownChannel",
         "The frequency or the data rate isn't one of the network's.",
-        "Set the gateway's channels to the eight of EU868.",
+        "A device joins on 868.1, 868.3 or 868.5 MHz, and then uses all eight channels of EU868. Set "
+        "those of the device, and of the gateway, which hears other ones too.",
     ),
     30: Refusal("OutOfMemory", "The server has no memory left.", "Give the machine more memory."),
 }

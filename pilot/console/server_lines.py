@@ -128,7 +128,8 @@ def take_listed(network: Network, server: Server, match: re.Match[str]) -> None:
     device.slot, device.granted = int(match["slot"]), int(match["granted"])
     # the last one may be listed before its line `joined` comes
     network.repeats.know(device.eui, device.granted - 1)
-    device.items, device.heard, device.store = int(match["items"]), int(match["heard"]), server.name
+    device.wait(int(match["items"]), time.time())
+    device.heard, device.store = int(match["heard"]), server.name
     server.by_slot[device.slot] = device.eui
     device.session, device.last_up, device.next_down = (
         None if match[name] == "-" else int(match[name])

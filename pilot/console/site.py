@@ -79,6 +79,7 @@ class Site:
         )
         made.filters |= {
             "ago": text.ago,
+            "seen": text.seen,
             "clock": text.clock,
             "duration": text.duration,
             "named": self.named,

@@ -3,13 +3,13 @@
 import asyncio
 import re
 import time
-from collections.abc import Mapping
+from collections.abc import Iterable, Mapping
 from dataclasses import dataclass, field
 from pathlib import Path
 
 from bozintar.broker import Access, Broker
 from bozintar.fields import Wrong
-from bozintar.logs import log
+from bozintar.logs import Seldom
 
 from . import broker_events, history, server_lines
 from .network import Network
@@ -24,6 +24,16 @@ OF_GATEWAY = re.compile(
     r'pilot_gateway_(copies_total|linked)\{bridge="([a-z]+)",gateway="([0-9A-F]{16})"\} '
     r"([0-9.e+]{1,20})"
 )
+# what else the page of the server shows, and the word of it
+AROUND = {
+    "pilot_copy_seconds": "Copy of the store",
+    "pilot_certificate_end_seconds": "Certificate ends",
+    "pilot_readings_disk_free_bytes": "Free on the disk of readings",
+}
+AROUND_LINE = re.compile(
+    rf'({"|".join(AROUND)})(?:\{{[a-z]+="([^"]{{1,200}})"\}})? ([0-9.e+]{{1,20}})'
+)
+AROUND_FILES = ("lnsd.prom", "readings-*.prom", "door.prom")
 # in a folder of all, for example node_exporter's, or in one of each bridge
 COUNTS_FILES = ("gateways-*.prom", "*/gateways-*.prom", "router.prom", "*/router.prom")
 MOST_COUNTS = 4_000_000
@@ -34,6 +44,7 @@ class Source:
 
     def __init__(self, network: Network, server: Server, lookout: str):
         self.network, self.server, self.lookout = network, server, lookout
+        self.seldom = Seldom()
         # something has changed, so the server is asked before it is time
         self.is_due = asyncio.Event()
 
@@ -91,7 +102,7 @@ class Source:
         try:
             server_lines.take_line(self.network, line, self.server)
         except (ValueError, IndexError) as why:
-            log(f"an unknown line {line[:80]!a}: {why}")
+            self.seldom.log("unknown", f"an unknown line {line[:80]!a}: {why}")
         if line in ("watching", "gone"):
             self.is_due.set()
 
@@ -104,6 +115,7 @@ class Sources:
         servers = network.servers
         self.lookouts = [Source(network, servers[name], path) for name, path in lookouts.items()]
         self.broker: Broker | None = None
+        self.seldom = Seldom()
 
     def connect(self, access: Access, name: str) -> None:
         """Connects to the broker, under this name of a client."""
@@ -120,7 +132,7 @@ class Sources:
         try:
             broker_events.take(self.network, topic, payload)
         except Wrong as why:
-            log(f"no event, on {topic[:80]!a}: {why}")
+            self.seldom.warn("no event", f"no event, on {topic[:80]!a}: {why}")
 
     async def refresh(self) -> None:
         """Asks all servers for their lists of devices."""
@@ -133,12 +145,16 @@ class Sources:
     async def look_on(self) -> None:
         """Looks whether the broker is there, and at the bridges' counts, again and again."""
         while True:
-            self.network.is_broker_there = bool(self.broker and self.broker.is_there())
+            is_there = bool(self.broker and self.broker.is_there())
+            if is_there and not self.network.is_broker_there:
+                self.network.broker_since = time.time()
+            self.network.is_broker_there = is_there
             if self.counts:
                 found = await asyncio.to_thread(counts_in, self.counts)
                 take_copies(self.network, found.copies)
                 take_linked(self.network, found.linked)
                 take_lists(self.network, found.lists)
+                self.network.around = found.around
             self.network.save_minutes()
             await asyncio.sleep(STATUS_EVERY)
 
@@ -155,28 +171,40 @@ class OfGateways:
     linked: dict[str, bool] = field(default_factory=dict)
     # the gateways in the list of each bridge that runs
     lists: dict[str, set[str]] = field(default_factory=dict)
+    # what else there is: what, of which, and how much
+    around: list[tuple[str, str, float]] = field(default_factory=list)
 
 
 def counts_in(folder: str) -> OfGateways:
     """The counts of all bridges. A file that can't be read now is read the next time."""
     found = OfGateways()
-    files = (file for pattern in COUNTS_FILES for file in Path(folder).glob(pattern))
-    for file in files:
+    for what, of, value in lines_in(folder, AROUND_FILES, AROUND_LINE):
+        try:
+            found.around.append((AROUND[what], of, float(value)))
+        except ValueError:
+            pass  # no number after all
+    for name, bridge, eui, value in lines_in(folder, COUNTS_FILES, OF_GATEWAY):
+        try:
+            number = int(float(value))
+        except (ValueError, OverflowError):
+            continue  # no number after all
+        if name == "linked":
+            found.lists.setdefault(bridge, set()).add(eui)
+            found.linked[eui] = found.linked.get(eui, False) or number > 0
+        else:
+            found.copies[eui] = found.copies.get(eui, 0) + number
+    return found
+
+
+def lines_in(folder: str, patterns: Iterable[str], form: re.Pattern[str]) -> list[tuple]:
+    """What the lines of this form say in the files of a folder."""
+    found: list[tuple] = []
+    for file in (file for pattern in patterns for file in Path(folder).glob(pattern)):
         try:
             with open(file, encoding="ascii") as text:
-                samples = OF_GATEWAY.findall(text.read(MOST_COUNTS))
+                found += form.findall(text.read(MOST_COUNTS))
         except (OSError, UnicodeError):
             continue
-        for name, bridge, eui, value in samples:
-            try:
-                number = int(float(value))
-            except (ValueError, OverflowError):
-                continue  # no number after all
-            if name == "linked":
-                found.lists.setdefault(bridge, set()).add(eui)
-                found.linked[eui] = found.linked.get(eui, False) or number > 0
-            else:
-                found.copies[eui] = found.copies.get(eui, 0) + number
     return found
 
 

@@ -20,6 +20,11 @@ def ago(moment: float, now: float | None = None) -> str:
     return f"{duration((time.time() if now is None else now) - moment)} ago"
 
 
+def seen(moment: float, now: float | None = None) -> str:
+    """How long ago the console saw something; 0 is not yet."""
+    return ago(moment, now) if moment else "not seen yet"
+
+
 def clock(moment: float) -> str:
     """A moment as a clock shows it, with its day unless that is today."""
     there, today = time.localtime(moment), time.localtime()

@@ -112,7 +112,7 @@ class Link:
     async def contents(self) -> AsyncIterator[bytes]:
         """What comes over all links of this name, one after the other, until one of them was ended
         well."""
-        clock, self.is_logged, pause = time.monotonic, True, 0.0
+        clock, self.is_logged, pause, was_away = time.monotonic, True, 0.0, False
         while True:
             begun, opened = clock(), self.opened
             try:
@@ -126,8 +126,11 @@ class Link:
             lasted = clock() - begun
             if why == CLOSED and lasted <= LASTING:
                 self.closed_soon += 1
-                why += "; another client may use this name"
-            pause = self.next_pause(pause, lasted, self.opened > opened)
+                why += "; another client may use this name, or it isn't in the list of names"
+            is_linked = self.opened > opened
+            # a server that was away has ended the link before, and not another client
+            pause = self.next_pause(0.0 if was_away and is_linked else pause, lasted, is_linked)
+            was_away = not is_linked
             text = f"{self.name}: no link to {self.address}, again in {pause:.1f} s: {why}"
             self.is_logged |= self.seldom.warn(why, text)
             await asyncio.sleep(pause)
@@ -138,7 +141,7 @@ class Link:
         first, longest = self.pauses
         if was_linked and lasted > min(LASTING, STEADY * pause):
             return first
-        most = longest if was_linked else max(pause, min(LATEST, longest))
+        most = longest if was_linked else min(LATEST, longest)
         return min(max(first, 2 * pause), most)
 
     async def of_one(self) -> AsyncIterator[bytes]:

@@ -1,13 +1,14 @@
 """What alarms aren't for: devices that are retired or hidden, gateways that are hidden or forgotten.
 And what events say of devices: names and applications."""
 
+from datetime import datetime, timezone
 from pathlib import Path
 
 import pytest
 from console import server_lines
 from console.sources import counts_in, take_copies, take_lists
 
-from .sites import DEVICE, GATEWAY, STATUS, Clock, Console, listed, up
+from .sites import DEVICE, GATEWAY, STATUS, Clock, Console, event, listed, up
 
 OTHER, SECOND = "00000000000000B2", "70B3D57ED0000002"
 PATH = f"/devices/{DEVICE}"
@@ -160,3 +161,73 @@ def test_applications(console: Console) -> None:
         assert "Application 4" in console.get(f"/devices/{SECOND}").text
         console.settle()
         console.again()
+
+
+def test_queue(console: Console, clock: Clock) -> None:
+    """A device's page says how many items wait, since when, and why, until none waits."""
+    waits = listed(0, DEVICE).replace(" 5 2 0 ", " 5 2 2 ")
+    console.serves(waits)
+    clock.now += 300
+    console.serves(waits)
+    assert "Downlinks waiting 2, since 5 min ago " in console.get(PATH).text
+    why = "the item has been first for 8 uplinks: it has 242 bytes, and 115 fit at DR3"
+    console.events(event(DEVICE, "log", {"code": "ITEM_TOO_LONG", "description": why}))
+    assert f"Downlinks waiting 2, since 5 min ago: {why}" in console.get(PATH).text
+    console.serves(listed(0, DEVICE))
+    assert "Downlinks waiting 0 " in console.get(PATH).text
+
+
+def test_repeated_requests(console: Console) -> None:
+    """MAC commands that are asked for again and again are one event."""
+    for commands in ("06", "06", "06", "0330FF0001", "06"):
+        console.events(event(DEVICE, "macqueued", {"commands": commands}))
+    shown = console.get(PATH).text
+    assert shown.count("Downlink queued: DevStatusReq") == 2 and shown.count("LinkADRReq") >= 1
+
+
+@pytest.mark.parametrize(
+    "lag, since, shown",
+    [
+        (30 * 86_400, 3600, "is 30 days slow"),
+        (-40 * 86_400, 3600, "is 40 days fast"),
+        (-40 * 86_400, 0, "is 40 days fast"),
+        # it may have waited in the broker, or in the server
+        (30 * 86_400, 0, ""),
+        (600, 3600, ""),
+    ],
+)
+def test_clocks(console: Console, clock: Clock, lag: int, since: int, shown: str) -> None:
+    """A bridge whose clock is wrong by more than an hour is named, until it is right."""
+    console.network.broker_since = clock.now - since
+    for counter, late in ((0, lag), (1, 0)):
+        came = datetime.fromtimestamp(clock.now - late, timezone.utc).isoformat()
+        console.events(up(DEVICE, counter, time=came))
+        page = console.get("/").text
+        wrong = "The clock of application 3's bridge"
+        assert (f"{wrong} {shown}" in page) if shown and late else wrong not in page
+
+
+def test_around(console: Console, folder: Path, clock: Clock) -> None:
+    """The server's page has what the counts say of copies, certificates and disks."""
+    lines = [f"pilot_copy_seconds {clock.now - 7200:.1f}"]
+    lines += [f'pilot_certificate_end_seconds{{file="/x/a.crt"}} {clock.now + 864_000:e}']
+    lines += ['pilot_certificate_end_seconds{file="/x/b.crt"} 0.0', "pilot_copy_seconds 1e"]
+    (folder / "lnsd.prom").write_text("\n".join(lines), encoding="ascii")
+    free = 'pilot_readings_disk_free_bytes{application="3"} 2.5e+09'
+    (folder / "readings-3.prom").write_text(free, encoding="ascii")
+    console.network.around = counts_in(str(folder)).around
+    shown = console.get("/server").text
+    for text in (
+        "Copy of the store 2 h ago",
+        "Certificate ends /x/a.crt in 10 days",
+        "/x/b.crt it has ended",
+        "Free on the disk of readings 3 2.5 GB",
+    ):
+        assert text in shown
+
+
+def test_gateway_not_seen(console: Console) -> None:
+    """Of a gateway that the console hasn't seen it doesn't say that it never was there."""
+    console.lines(f"ended gateway {OTHER}")
+    assert "Last uplink not seen yet" in console.get("/").text
+    assert "never" not in console.get("/gateways").text

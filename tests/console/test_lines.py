@@ -24,7 +24,11 @@ SHOWN = [
     ("left_out 12", "/server", "12 events weren't printed"),
     ("gone", "/", "No server answers lnsd doesn't run"),
     (f"refused 1 Malformed other {HEARD}", "/refused", "Malformed The bytes are no LoRaWAN frame."),
-    (f"refused 24 UnknownChannel other {HEARD}", "/refused", "the eight of EU868. 1"),
+    (
+        f"refused 24 UnknownChannel other {HEARD}",
+        "/refused",
+        "channels of EU868. Set those of the device",
+    ),
     (f"refused 99 Later other {HEARD}", "/refused", "Refusal 99"),
     (f"refused 9 DevNonceUsed join {DEVICE} 65535 {HEARD}", "/refused", "1 0 s ago 65535"),
     (f"refused 3 UnknownDevAddr data 26000001 9 {HEARD}", "/refused", "UnknownDevAddr No session"),

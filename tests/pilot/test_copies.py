@@ -4,6 +4,7 @@ tests/lnsd/copies."""
 import os
 import re
 import subprocess
+import sys
 import threading
 import time
 from collections.abc import Iterator
@@ -14,7 +15,7 @@ from bozintar import image, load
 from bozintar.links import Application
 from bozintar.server import Program
 
-from .parts import Pilot, run
+from .parts import Parts, Pilot, run
 from .rows import table
 
 SLOTS = 5
@@ -170,6 +171,21 @@ def test_program_that_fails(made: Path, folder: Path) -> None:
     status, _, said = run("copy", made, folder, "--lnsd", "/bin/false")
     assert (status, said) == (1, f"copy: {made} can't be copied: lnsd copy ended with 1\n")
     assert not list(folder.iterdir())
+
+
+BUSY = "end = time.monotonic() + 8\nwhile time.monotonic() < end: pass\nprint('devices 0 seq 0')"
+
+
+@pytest.mark.parametrize("is_busy", (True, False))
+def test_slow_program(made: Path, folder: Path, parts: Parts, is_busy: bool) -> None:
+    """A copy may take any time for which lnsd works; if it does nothing, it is ended."""
+    text = f"#!{sys.executable}\nimport sys, time\n{BUSY if is_busy else 'time.sleep(600)'}\n"
+    slow = Path(parts.file("slow", f"{text}open(sys.argv[3], 'w').close()\n"))
+    slow.chmod(0o755)
+    copy = parts.own("copy", made, folder, "--lnsd", slow, after="program.PATIENCE = 5.0").start()
+    assert copy.ended(60) == (0 if is_busy else 1), copy.said()
+    due = "devices 0 seq 0" if is_busy else "can't be copied: lnsd copy has done nothing for 5 s"
+    assert due in copy.said() and len(list(folder.iterdir())) == is_busy
 
 
 def test_store_that_is_gone(program: str, folder: Path) -> None:

@@ -16,6 +16,7 @@ from bozintar.words import Address
 PAUSES: tuple = (
     ("restarts nine seconds apart", (9, 9, 9, 9), (1, 1, 1, 1)),
     ("restarts that take some seconds", (9, None, None, 9, None, 9), (1, 2, 2, 1, 2, 1)),
+    ("restarts that are seen twice", (9, None, 6, None, 6, None, 6), (1, 2, 1, 2, 1, 2, 1)),
     ("a server that is away for long", (100, None, None, None, None), (1, 2, 2, 2, 2)),
     ("no server yet", (None, None, None), (1, 2, 2)),
     (
@@ -24,7 +25,7 @@ PAUSES: tuple = (
         (1, 2, 4, 8, 16, 1),
     ),
     ("places that are all taken", (0, 0, 0, 0, 0, 0, 0, 11), (1, 2, 4, 8, 16, 30, 30, 1)),
-    ("a server that goes away meanwhile", (0, 0, 0, None, 0), (1, 2, 4, 4, 8)),
+    ("a server that goes away meanwhile", (0, 0, 0, None, 0, 0), (1, 2, 4, 2, 1, 2)),
 )
 
 # what these links bring

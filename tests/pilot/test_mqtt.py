@@ -4,7 +4,9 @@ import base64
 import json
 import os
 import signal
+import sqlite3
 from collections.abc import Iterable, Iterator
+from contextlib import closing
 from datetime import datetime, timedelta, timezone
 from pathlib import Path
 from typing import Any
@@ -119,7 +121,7 @@ def test_refused_items(whole: Whole, dashboard: Dashboard) -> None:
     assert queued() == ["the same", "last"]
     codes = [body["code"] for _, kind, body in dashboard.events if kind == "log"]
     due = ["UNKNOWN_DEVICE", "BAD_PORT", "DOWNLINK_PAYLOAD_SIZE", "ID_IN_USE"]
-    assert sorted(codes) == sorted(due)
+    assert sorted(codes) == sorted(due + ["BAD_COMMAND"] * len(WRONG_COMMANDS))
 
 
 def test_status_of_a_device(whole: Whole, dashboard: Dashboard) -> None:
@@ -278,10 +280,12 @@ def test_counts_of_readings(parts: Parts) -> None:
     stored = Stored(parts, "--counts", file)
     with stored.dashboard:
         stored.say([("70b3d57ed0000001", 1, 0)] * 2, time.isoformat())
-        stored.dashboard.say("application/3/device/70b3d57ed0000001/event/up", b"{}")
+        for wrong in (b"{}", b"\xff\x00", b"{}"):
+            stored.dashboard.say("application/3/device/70b3d57ed0000001/event/up", wrong)
         names = [f"readings_{name}" for name in ("stored", "repeated", "wrong", "broker_connected")]
-        counted = lambda: [counts_in(file)[name] for name in names] == [1, 1, 1, 1]
-        await_that("the counts", lambda: os.path.exists(file) and counted(), 30, 0.5)
+        counted = lambda: [counts_in(file)[name] for name in names] == [1, 1, 3, 1]
+        await_that("the counts", lambda: os.path.exists(file) and counted(), 60, 0.5)
+    assert stored.part.said().count("no reading, on") == 1
     numbers = counts_in(file)
     assert 7200 <= numbers["readings_late_seconds"] < 7300
     assert numbers["readings_disk_free_bytes"] > 0
@@ -361,6 +365,28 @@ def test_report_after_a_restore(stored: Stored, parts: Parts) -> None:
     assert stored.prints(*words) == (0, "\n".join(TAKEN) + "\n", "")
     more = ("--restored", parts.file("restored", RESTORED))
     assert stored.prints(*words, *more) == (0, "\n".join(TAKEN_SINCE) + "\n", "")
+
+
+def test_moved_device(stored: Stored, parts: Parts) -> None:
+    """What a device sent after it had moved to another application isn't lost, if that one's
+    database is named, too. Other devices of that one aren't in the report."""
+    stored.say([("70b3d57ed0000001", 1, counter) for counter in (0, 1, 2)])
+    await_all("they are stored", lambda: "readings 3 " in stored.prints("--report")[1])
+    other = parts.file("other.db")
+    with closing(sqlite3.connect(other)) as database, database:
+        table = "device, session, counter, port, payload, came, earliest"
+        database.execute(f"CREATE TABLE readings ({table})")
+        for number, counters in ((1, (3, 4, 6)), (9, (0,))):
+            rows = [(f"70B3D57ED000000{number}", 1, of, 7, b"", TIME, None) for of in counters]
+            database.executemany("INSERT INTO readings VALUES (?, ?, ?, ?, ?, ?, ?)", rows)
+    listed = ("--list", parts.file("list", "0 70B3D57ED0000001 1 1 6 3 0 7\n"))
+    alone = stored.prints("--report", *listed)[1].splitlines()
+    assert alone[0] == f"70B3D57ED0000001 stored 3 missing 0 taken 7 lost 4 last {TIME}"
+    both = stored.prints("--report", *listed, "--also", other)[1].splitlines()
+    assert both == [
+        f"70B3D57ED0000001 stored 6 missing 1 taken 7 lost 1 last {TIME}",
+        "readings 6 missing 1 lost 1",
+    ]
 
 
 def test_silent_devices(stored: Stored, parts: Parts) -> None:
