@@ -155,8 +155,8 @@ def of_devices(network: Network, now: float) -> Iterator[Problem]:
         yield Problem(NOTE, what, why, remedy, "/devices?show=weak")
 
 
-def of_joins(network: Network, now: float) -> Iterator[Problem]:
-    """Devices that can't join, by the reason."""
+def cant_join(network: Network, now: float) -> Counter[int]:
+    """How many devices can't join, by the number of the refusal."""
     waiting: Counter[int] = Counter()
     for refused in network.refused.values():
         is_open = refused.kind == "join" and not refused.is_over and now - refused.last < DAY
@@ -164,7 +164,12 @@ def of_joins(network: Network, now: float) -> Iterator[Problem]:
         is_open = is_open and not (known and known.hidden)
         if is_open and refusal(refused.number).needs_attention:
             waiting[refused.number] += 1
-    for number, count in sorted(waiting.items()):
+    return waiting
+
+
+def of_joins(network: Network, now: float) -> Iterator[Problem]:
+    """Devices that can't join, by the reason."""
+    for number, count in sorted(cant_join(network, now).items()):
         reason, level = refusal(number), WARNING
         what = f"{plural(count, 'device')} can't join: {reason.name}"
         if number == UNKNOWN_DEV_EUI:

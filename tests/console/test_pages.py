@@ -146,7 +146,7 @@ def test_gateways(console: Console) -> None:
     console.lines(f"linked gateway {other}", f"ended gateway {other}")
     text = console.get("/gateways").text
     assert f"{GATEWAY} ● Online" in text and "100 % 6.0 dB" in text
-    assert f"{other} ■ Offline never" in text
+    assert f"{other} ■ Offline not seen yet" in text
     assert f"Gateway {other} is offline" in console.get("/").text
 
 

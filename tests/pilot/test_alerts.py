@@ -22,6 +22,7 @@ LAST_COPY = 'lnsd_last_copy_seconds{gateway="00000000000000B%d"}'
 OF_GATEWAY = 'pilot_gateway_%s{bridge="udp",gateway="00000000000000B1"}'
 APPLICATION = '{application="3"}'
 OF_STORE = 'pilot_store_%s{bridge="udp",store="d00"}'
+CANT_JOIN = 'pilot_console_cant_join{reason="%s"}'
 STORE_LINKED = 'pilot_applications_mqtt_store_linked{application="3",store="d00"}'
 
 
@@ -72,6 +73,7 @@ WELL = {
     "pilot_copy_seconds": steady(0),
     "pilot_copies_free_bytes": steady(9e9),
     "pilot_mark_unconfirmed": steady(0),
+    "pilot_console_silent": steady(0),
     "pilot_broker_messages": steady(60),
     "pilot_broker_dropped_messages_total": steady(7),
     "pilot_gateways_mqtt_broker_connected": steady(1),
@@ -150,6 +152,9 @@ WRONG: tuple = (
     ("ApplicationMissing", {"lnsd_applications": steady(0)}),
     ("StoreIsAnother", {"pilot_applications_mqtt_gone" + APPLICATION: steady(2)}),
     ("StoreIsAnother", {"pilot_applications_mqtt_fallen_total": growing(1)}),
+    ("DevicesCantJoin", {CANT_JOIN % "BadMic": steady(1)}),
+    ("", {CANT_JOIN % "UnknownDevEui": steady(9)}),
+    ("DevicesAreSilent", {"pilot_console_silent": steady(2)}),
     ("ReadingsDiffer", {"pilot_readings_differing_total": growing(1)}),
     ("LnsdNearlyFull", {"lnsd_devices": steady(4000)}),
     ("LnsdDiskIsSlow", {"lnsd_waiting": steady(2000)}),
