@@ -226,12 +226,15 @@ def test_console_reads_its_files(pilot: Pilot) -> None:
         ("/run/bozintar-look/look", pilot.file("look")),
         ("${BROKER}", f"{HOST}:{pilot.broker_port}"),
         ("%S/bozintar-console", pilot.folder),
+        ("%t/bozintar-console", copies),
         ("${CONSOLE}", f"{HOST}:{free_port()}"),
     ):
         assert old in line
         line = line.replace(old, new)
     console = pilot.own("console/web-console", *shlex.split(line)[1:])
     console.start("listens on https")
+    await_that("its numbers", lambda: os.path.exists(f"{copies}/console.prom"))
+    assert line_of(name, "RuntimeDirectoryMode") == "0755"
 
 
 def test_copies_of_the_night(pilot: Pilot) -> None:
