@@ -90,9 +90,9 @@ class Container:
         """A property of a unit."""
         return self.does("systemctl", "show", "-p", what, "--value", unit).strip()
 
-    def journal(self, unit: str, since: str = "-1h") -> str:
-        """What a unit has logged."""
-        return self.does("journalctl", "-u", unit, "--no-pager", "-o", "cat", "--since", since)
+    def journal(self, of: str, by: str = "-u", since: str = "-1h") -> str:
+        """What a unit, or with by="-t" a program, has logged."""
+        return self.does("journalctl", by, of, "--no-pager", "-o", "cat", "--since", since)
 
 
 def need_root() -> None:

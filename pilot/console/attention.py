@@ -75,7 +75,7 @@ def of_mark() -> Iterator[Problem]:
     """A store whose mark was lost, as long as nobody has confirmed it."""
     with suppress(OSError):
         if "unconfirmed 1" in MARK.read_text(encoding="ascii"):
-            what, why = "The store may be an older one", "the file that would tell it was lost"
+            what, why = "The store may be an older one", "its mark was lost"
             remedy = "journalctl -u lnsd names the command that confirms the store."
             yield Problem(GRAVE, what, why, remedy, "/server")
 

@@ -1,10 +1,11 @@
 """The mark of a store that a unit serves without a fence in etcd: which file was served last, and
 how far it was. The mark is at most the store's state, whenever the power fails: so a store below it
-has lost something. It never falls, but for an id that it lacks or by an operator's word."""
+has lost something. It only falls for an id that it lacks, or by an operator's word."""
 
 import asyncio
 import hashlib
 import os
+import re
 import select
 from collections.abc import Callable
 from dataclasses import asdict, dataclass, replace
@@ -21,6 +22,7 @@ from .server import Lnsd
 
 # how often the mark is written, and how long a start waits for it at most, in seconds
 EVERY, PATIENCE = 1.0, 10.0
+ID = re.compile("[0-9a-f]{32}")
 WORDS = "--netid {netid} --generation {generation} --number {number}"
 # whether the mark was lost and nobody has confirmed the store since. It is written as often
 SHOWN = "pilot_mark_unconfirmed {:d}\n"
@@ -100,8 +102,8 @@ class Marks:
     def look(self) -> tuple[Found, str]:
         """The store's file, and its id or nothing. The machine isn't part of its home, since a disk
         may go to another one."""
-        own = self.id.read_text(encoding="ascii").strip() if self.id.exists() else ""
-        return found(str(self.store), "", "inode"), own
+        text = self.id.read_text(errors="replace").strip() if self.id.exists() else ""
+        return found(str(self.store), "", "inode"), text if ID.fullmatch(text) else ""
 
     def before(self) -> tuple[Mark | None, str]:
         """The mark, or why there is none."""

@@ -22,7 +22,7 @@ from bozintar.server import Program
 from bozintar.words import Address
 from console import attention
 from fence import files
-from fence.judging import Found
+from fence.judging import RECORDS, Found
 from fence.marks import Mark
 
 from ..lnsd.kills import older
@@ -39,24 +39,18 @@ class Machine(Unit):
 
     count, address = 0, Address("", 0)
 
-    @property
-    def file(self) -> Path:
-        """The store."""
-        return Path(self.server.store)
-
-    @property
-    def own(self) -> Path:
-        """The store's id."""
-        return Path(f"{self.server.store}.id")
+    def __init__(self, server: Program) -> None:
+        super().__init__(server)
+        self.file, self.own = Path(server.store), Path(f"{server.store}.id")
 
     def marked(self) -> Mark:
         """What MARK has."""
         return Mark.kept(self.mark)
 
-    def numbers(self) -> dict[str, float]:
-        """What Prometheus and the console are shown."""
-        lines = self.shown.read_text(encoding="ascii").splitlines()
-        return {name: float(value) for name, value in map(str.split, lines)}
+    def alarms(self) -> list[int]:
+        """The levels of what the console shows of MARK."""
+        attention.MARK = self.shown
+        return [problem.level for problem in attention.of_mark()]
 
     def live(
         self,
@@ -65,7 +59,7 @@ class Machine(Unit):
         is_cut: bool = False,
         until: Callable[[], Any] | None = None,
     ) -> str:
-        """A life with so many decisions, which is ended well or by a signal once MARK has them, or
+        """A life with N decisions, which is ended well or by a signal once MARK has them, or
         something else is so; what was printed."""
 
         def of_life(process: subprocess.Popen, address: Address) -> bool:
@@ -126,16 +120,15 @@ def test_what_it_has(machine: Machine) -> None:
     file's number, and after a fault of the disk it stays."""
     found, own = files.found(machine.server.store, "", "inode"), machine.own.read_text().strip()
     digest = hashlib.sha256(machine.file.read_bytes()).hexdigest()
-    due = Mark("00002A", found.generation, machine.count, found.home, digest, own)
+    due = Mark("00002A", 1, 2, found.home, digest, own)
     assert machine.marked() == due and re.fullmatch("[0-9a-f]{32}", own)
-    assert (found.number, found.version) == (machine.count, image.NEWEST)
+    assert RECORDS == image.NEWEST == found.version
     machine.live(3, signal.SIGKILL)
-    killed = machine.marked()
-    assert killed == replace(due, number=machine.count, digest="")
-    machine.mark.rename(away := machine.folder / "away")
+    assert machine.marked() == replace(due, number=5, digest="")
+    (lower := replace(due, number=4)).keep(machine.mark)
     for status in ("1", "3", "4"):
         assert machine.end_of(EXIT_CODE="exited", EXIT_STATUS=status) == 0
-    away.rename(machine.mark)
+    assert machine.marked() == lower
 
 
 def write_into(machine: Machine, content: bytes) -> None:
@@ -163,12 +156,9 @@ def test_older_store(
     machine: Machine, how: Callable[[Machine, bytes], None], end: int, is_cut: bool, due: str
 ) -> None:
     """A copy that is put back, or a volume that is rolled back by two decisions, is refused after
-    any end, again and again, and the true one isn't; an operator's word has it served."""
+    any end, again and again; an operator's word has it served."""
     old = machine.file.read_bytes()
     machine.live(2, end, is_cut)
-    machine.file.rename(true := machine.folder / "true")
-    shutil.copy(true, machine.file)
-    os.replace(true if how == write_into else machine.file, machine.file)
     how(machine, old)
     said = machine.refused(due)
     assert machine.accepts(said.replace("--number 2", "--number 3"))[0] == 1
@@ -227,23 +217,20 @@ def tear(mark: Path) -> None:
 
 @pytest.mark.parametrize("how", [tear, Path.unlink, lambda mark: shutil.rmtree(mark.parent)])
 def test_lost_mark(machine: Machine, how: Callable[[Path], None]) -> None:
-    """If MARK is torn, or its disk is away, the store is served, and that is told until an operator
+    """If MARK is torn, or its disk is away, the store is served, with an alarm until an operator
     confirms it, with the words of the start at which it was lost."""
-    assert machine.numbers()["pilot_mark_unconfirmed"] == 0
+    assert machine.alarms() == []
     how(machine.mark)
     said = machine.live(1, until=machine.shown.exists)
     assert "mark: No such file" in said or "mark: it is torn" in said
     machine.mark.parent.mkdir(exist_ok=True)
     later = machine.live(1)
     said = later if "is served, and may be" in later else said
-    assert machine.numbers()["pilot_mark_unconfirmed"] == 1
-    attention.MARK = machine.shown
-    assert [it.level for it in attention.of_mark()] == [attention.GRAVE]
+    assert machine.alarms() == [attention.GRAVE]
     assert machine.accepts(said.replace("--number ", "--number 9"))[0] == 1
     assert machine.accepts(said)[0] == 0
     machine.live(0)
-    assert machine.numbers()["pilot_mark_unconfirmed"] == 0
-    assert not list(attention.of_mark())
+    assert machine.alarms() == []
 
 
 def test_full_disk(machine: Machine) -> None:
@@ -252,13 +239,17 @@ def test_full_disk(machine: Machine) -> None:
     before, part = machine.marked(), machine.mark.with_suffix(".part")
 
     def is_full() -> bool:
-        """The disk is full from the first question on, and the server decides on."""
+        """The disk is full from the first question on."""
         if not part.exists():
             part.mkdir()
             machine.decide(1)
         return "mark can't be written" in (machine.folder / "log").read_text()
 
-    machine.live(0, signal.SIGKILL, is_cut=True, until=is_full)
+    def decides_on() -> bool:
+        machine.decide(1)
+        return True
+
+    machine.live(0, signal.SIGKILL, is_cut=True, until=lambda: is_full() and decides_on())
     part.rmdir()
     assert machine.marked() == replace(before, digest="")
     machine.live(1)
@@ -336,7 +327,7 @@ def test_first_meeting(machine: Machine) -> None:
     machine.mark.unlink()
     machine.made.unlink()
     machine.live(1)
-    assert machine.numbers()["pilot_mark_unconfirmed"] == 0
+    assert machine.alarms() == []
     machine.made.unlink()
     machine.file.rename(machine.folder / "away")
     assert str(machine.mark) in machine.starts(SMALL)[1], "no store is made, since there is a MARK"

@@ -57,7 +57,8 @@ class Unit:
     def look(self, given: dict[str, str] | None = None) -> str:
         """What root does before and after the start; what it prints."""
         words = self.words(r"ExecStartPre(?==-\+)", given or {})
-        return subprocess.run(words, stdout=subprocess.PIPE, text=True, check=True).stdout
+        ended = subprocess.run(words, stdout=subprocess.PIPE, text=True, check=True, umask=0o077)
+        return ended.stdout
 
     def starts(
         self, given: dict[str, str] | None = None, then: Then | None = None, **how: Any
