@@ -1,5 +1,4 @@
-"""A member of etcd that loses answers, or hands questions on late: what stands between a client and
-a real member."""
+"""A member of etcd that loses answers: what stands between a client and a real member."""
 
 import json
 import threading
@@ -26,9 +25,6 @@ class Handler(BaseHTTPRequestHandler):
         changes = self.path == "/v3/kv/txn" and any(
             "requestPut" in one for one in json.loads(body).get("success", [])
         )
-        if changes:
-            self.server.changes += 1
-            self.server.may_go.wait(PATIENCE)
         answer = self.server.answer(self.path, body)
         if changes and self.server.loses > 0:
             self.server.loses -= 1
@@ -45,16 +41,13 @@ class Handler(BaseHTTPRequestHandler):
 
 
 class Proxy(ThreadingHTTPServer):
-    """The proxy of a member. It loses the answers to this number of changes, and hands changes on
-    while they may go."""
+    """The proxy of a member. It loses the answers to this number of changes."""
 
     daemon_threads = True
 
     def __init__(self, member: Address):
         super().__init__((HOST, 0), Handler)
-        self.member, self.loses, self.changes = member, 0, 0
-        self.may_go = threading.Event()
-        self.may_go.set()
+        self.member, self.loses = member, 0
         self.thread = threading.Thread(target=self.serve_forever, daemon=True)
         self.thread.start()
 
@@ -74,7 +67,6 @@ class Proxy(ThreadingHTTPServer):
 
     def end(self) -> None:
         """Ends it."""
-        self.may_go.set()
         self.shutdown()
         self.server_close()
         self.thread.join()
