@@ -24,7 +24,8 @@ from .server import Lnsd
 EVERY, PATIENCE = 1.0, 10.0
 ID = re.compile("[0-9a-f]{32}")
 WORDS = "--netid {netid} --generation {generation} --number {number}"
-# whether the mark was lost and nobody has confirmed the store since. It is written as often
+# whether the mark was lost and nobody has confirmed the store since; written each time that the
+# mark is on the disk
 SHOWN = "pilot_mark_unconfirmed {:d}\n"
 
 
@@ -122,7 +123,7 @@ class Marks:
             return False
 
     def keep(self, mark: Mark) -> Mark:
-        """Writes a mark, and shows Prometheus and the console that it is there."""
+        """Writes a mark, if that can be done; the same."""
         self.is_kept = self.writes(self.file, lambda: mark.keep(self.file))
         return mark
 
@@ -144,9 +145,14 @@ class Marks:
         """Has a child write the mark for as long as this process runs, which becomes the server;
         whether it is on the disk already."""
         self.show()
-        reader, writer = os.pipe()
-        server = os.pidfd_open(os.getpid())
-        if os.fork():
+        try:
+            reader, writer = os.pipe()
+            server = os.pidfd_open(os.getpid())
+            child = os.fork()
+        except OSError as why:
+            self.seldom.warn("begin", f"{self.file} isn't written: {why.strerror}")
+            return False
+        if child:
             os.close(writer)
             is_there = select.select([reader], [], [], PATIENCE)[0]
             return bool(is_there and os.read(reader, 1))
