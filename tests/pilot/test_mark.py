@@ -169,8 +169,8 @@ def test_older_store(
 
 
 def test_copy_from_before_a_retire(machine: Machine) -> None:
-    """A volume that is rolled back to before a retire, which makes no decision, is refused; what was
-    changed after a clean end is served."""
+    """A volume that is rolled back to before a retire, which makes no decision, is refused; what
+    was changed after a clean end is served."""
     old = machine.file.read_bytes()
     assert machine.server.run("retire", machine.server.store, f"{1:016X}")[0] == 0
     machine.live(0, signal.SIGKILL)
@@ -200,8 +200,8 @@ def test_lost_original(machine: Machine) -> None:
 
 
 def test_moved_store(machine: Machine) -> None:
-    """The bytes of the clean end are served from another file, which then is the store: after a cut,
-    too, if MARK couldn't be written."""
+    """The bytes of the clean end are served from another file, which then is the store: after a
+    cut, too, if MARK couldn't be written."""
     put_back(machine, machine.file.read_bytes())
     machine.mark.with_suffix(".part").mkdir()
     said = machine.live(1, signal.SIGKILL, is_cut=True, until=lambda: True)
@@ -267,8 +267,8 @@ STEPS = ((Path, "unlink"), (os, "fchmod"), (os, "fsync"), (Path, "rename"))
 
 
 def test_cut_at_each_step(folder: Path, monkeypatch: pytest.MonkeyPatch) -> None:
-    """A kill before each step of a write, 200 times, leaves the mark before or after it, which never
-    refuses the store. What is renamed is on the disk, and the name is at the end."""
+    """A kill before each step of a write, 200 times, leaves the mark before or after it, which
+    never refuses the store. What is renamed is on the disk, and the name is at the end."""
     calls: list[str] = []
     kill_at = 0
 
