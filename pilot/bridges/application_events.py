@@ -163,7 +163,7 @@ def of_topic(topic: str, application: int) -> re.Match[str] | None:
     )
 
 
-def asked_in(topic: str, application: int, body: bytes) -> Command | None:
+def meant(topic: str, application: int, body: bytes) -> Command | None:
     """Whose command a message was meant to be, and its id if that can be read."""
     found = of_topic(topic, application)
     try:

@@ -161,7 +161,3 @@ class Frames:
             place = end
         del self.kept[:place]
         return contents
-
-    def is_between(self) -> bool:
-        """Whether everything that came was whole messages."""
-        return not self.kept

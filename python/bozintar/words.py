@@ -111,20 +111,6 @@ def seconds(least: float, most: float) -> Callable[[str], float]:
     return read
 
 
-def part(text: str) -> tuple[int, int]:
-    """One of several parts, for example 2/3."""
-    which, slash, of = text.partition("/")
-    if not (which.isdecimal() and of.isdecimal() and slash and 1 <= int(which) <= int(of) <= 99):
-        raise argparse.ArgumentTypeError(f"{text} is no part, for example 2/3")
-    return int(which), int(of)
-
-
-def in_part(topics: list, chosen: tuple[int, int] | None) -> list:
-    """The topics of a part, or all if none is chosen: every Nth one from the Kth on."""
-    which, of = chosen or (1, 1)
-    return topics[which - 1 :: of]
-
-
 def folder(text: str) -> str:
     """A folder that is there."""
     if not os.path.isdir(text):

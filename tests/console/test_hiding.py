@@ -224,10 +224,3 @@ def test_around(console: Console, folder: Path, clock: Clock) -> None:
         "Free on the disk of readings 3 2.5 GB",
     ):
         assert text in shown
-
-
-def test_gateway_not_seen(console: Console) -> None:
-    """Of a gateway that the console hasn't seen it doesn't say that it never was there."""
-    console.lines(f"ended gateway {OTHER}")
-    assert "Last uplink not seen yet" in console.get("/").text
-    assert "never" not in console.get("/gateways").text

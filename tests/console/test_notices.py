@@ -5,6 +5,7 @@ from collections.abc import Iterator
 from http.server import BaseHTTPRequestHandler, HTTPServer
 from threading import Thread
 from typing import Any
+from unittest.mock import MagicMock
 
 import pytest
 from bozintar.counts import text_of
@@ -32,9 +33,6 @@ def hook() -> Iterator[HTTPServer]:
             texts.append(json.loads(body)["text"])
             self.send_response(200)
             self.end_headers()
-
-        def log_message(self, *_: Any) -> None:
-            """Nothing is printed."""
 
     server = HTTPServer((HOST, 0), Handler)
     server.texts = texts  # type: ignore[attr-defined]
@@ -68,28 +66,12 @@ def test_webhook(console: Console, hook: Any) -> None:
 
 def test_mail(console: Console, monkeypatch: pytest.MonkeyPatch) -> None:
     """Mail goes to this machine's server."""
-    sent: list[Any] = []
-
-    class Server:
-        """What smtplib connects to."""
-
-        def __init__(self, host: str, timeout: float) -> None:
-            assert (host, timeout) == ("localhost", 20.0)
-
-        def __enter__(self) -> "Server":
-            return self
-
-        def __exit__(self, *_: Any) -> None:
-            pass
-
-        def send_message(self, message: Any) -> None:
-            """Takes mail."""
-            sent.append(message)
-
-    monkeypatch.setattr(notices.smtplib, "SMTP", Server)
+    server = MagicMock()
+    monkeypatch.setattr(notices.smtplib, "SMTP", server)
     console.lines(f"ended gateway {OTHER}")
     console.run(Notices(console.network, "mailto:ops@lns.example").look())
-    (mail,) = sent
+    assert server.call_args.args == ("localhost",)
+    (mail,) = server.return_value.__enter__.return_value.send_message.call_args.args
     assert mail["To"] == "ops@lns.example" and mail["Subject"].startswith("Bozintar: Gateway ")
     assert "Check its power" in mail.get_content()
 

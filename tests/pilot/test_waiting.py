@@ -45,7 +45,6 @@ def test_order() -> None:
         "the item has been first for 1 uplinks: it has 200 bytes, and 115 fit at DR3. Those after "
         "it wait, too"
     )
-    assert waiting.hear("22" * 8, 3) is None
 
 
 def test_blocked(parts: Parts, network: Network) -> None:
