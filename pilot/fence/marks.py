@@ -24,9 +24,11 @@ from .server import Lnsd
 EVERY, PATIENCE = 1.0, 10.0
 ID = re.compile("[0-9a-f]{32}")
 WORDS = "--netid {netid} --generation {generation} --number {number}"
-# whether the mark was lost and nobody has confirmed the store since; written each time that the
-# mark is on the disk
-SHOWN = "pilot_mark_unconfirmed {:d}\n"
+# for Prometheus and the console, written each time that the mark is on the disk
+SHOWN = """# HELP pilot_mark_unconfirmed whether the mark was lost, and nobody confirmed the store since
+# TYPE pilot_mark_unconfirmed gauge
+pilot_mark_unconfirmed {:d}
+"""
 
 
 def put(file: Path, text: str) -> None:
