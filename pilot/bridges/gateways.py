@@ -46,6 +46,8 @@ OF_GATEWAYS = {
 }
 # unknown gateways that are logged; the others are only counted
 MOST_LOGGED = 16
+# how large a file of captured frames may be, in megabytes
+CAPTURE_MB = 16
 # links of gateways that the network has at a time
 MOST_LINKED = 64
 LOOK = 1.0
@@ -122,7 +124,7 @@ class Gateways(Generic[G]):
         self.name(given.named)
         on_signals((signal.SIGHUP,), self.read_again)
         counts.more = self.numbers
-        self.capture = Capture(given.capture, given.capture_size) if given.capture else None
+        self.capture = Capture(given.capture, CAPTURE_MB) if given.capture else None
 
     def name(self, those: dict[str, Named]) -> None:
         """Lets these gateways connect, and no others. Those that were named already go on."""
@@ -309,14 +311,7 @@ def add_capture(options: words.Words) -> None:
         "--capture",
         metavar="FILE",
         help="writes each frame that is handed in, and each that a gateway is to send, to a file "
-        "for Wireshark (pcap with LoRaTap); what was in it before goes to FILE.old",
-    )
-    options.add_argument(
-        "--capture-size",
-        type=words.between(1, 10_000),
-        default=16,
-        metavar="MB",
-        help="how large these two files may be, each, 1 to 10000 (16)",
+        "for Wireshark (pcap with LoRaTap); what was in it before goes to FILE.old. Each has at most 16 MB",
     )
 
 

@@ -116,43 +116,33 @@ def test_encrypted_copies(made: Path, program: str, folder: Path) -> None:
     assert re.fullmatch(r"store-\d{4}-\d\d-\d\dT\d\d-\d\d-\d\d\.age", file.name)
     assert f"{file}: devices 0 seq 0\n" in out and file.stat().st_mode & 0o777 == 0o600
     for name in ("first", "second"):
-        plain = subprocess.run(
-            ["age", "--decrypt", "--identity", folder / name, file], capture_output=True, check=True
-        )
+        opening = ["age", "--decrypt", "--identity", str(folder / name), str(file)]
+        plain = subprocess.run(opening, capture_output=True, check=True)
         assert image.read(plain.stdout).lines() == ["devices 0 seq 0"]
     assert not list(room.iterdir())
 
 
 def key_of(file: Path) -> str:
     """A new key of age in a file; its public part."""
-    words = ["age-keygen", "--output", file]
+    words = ["age-keygen", "--output", str(file)]
     said = subprocess.run(words, capture_output=True, text=True, check=True).stderr
     return said.rsplit(" ", 1)[-1].strip()
 
 
-@table(
-    "name, key, path, why",
-    (
-        ("no key", "age1none", None, "age: error: malformed recipient"),
-        ("no age", "age1none", "/nowhere", "there is no program age"),
-    ),
-)
+@pytest.mark.parametrize("path, why", ((None, "malformed recipient"), ("/none", "no program age")))
 def test_copies_that_are_not_encrypted(
     made: Path,
     program: str,
     folder: Path,
     monkeypatch: pytest.MonkeyPatch,
-    name: str,
-    key: str,
     path: str | None,
     why: str,
 ) -> None:
     """If a copy can't be encrypted, a line says why, and none is left in clear."""
     to = folder / "to"
     to.mkdir()
-    if path:
-        monkeypatch.setenv("PATH", path)
-    status, _, said = run("copy", made, to, "--lnsd", program, "--recipient", key)
+    monkeypatch.setenv("PATH", path or os.environ["PATH"])
+    status, _, said = run("copy", made, to, "--lnsd", program, "--recipient", "age1none")
     assert status == 1 and said.startswith("copy: the copy can't be encrypted") and why in said
     assert not list(to.iterdir())
 
