@@ -58,7 +58,8 @@ def settings_of(name: str) -> dict[str, str]:
 
 def started(processes: Processes, unit: Unit) -> Process:
     """What a unit runs, after what it runs first."""
-    subprocess.run(unit.words("ExecStartPre"), check=True)
+    if values_of(unit.text, "ExecStartPre"):
+        subprocess.run(unit.words("ExecStartPre"), check=True)
     folder = "".join(values_of(unit.text, "WorkingDirectory")).removeprefix("-")
     for place, now in unit.places.items():
         folder = folder.replace(place, now)

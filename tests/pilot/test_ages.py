@@ -25,8 +25,6 @@ BY_CLOCK = """from functools import partial
 program.ages.Ages, program.ages.KEPT = partial(program.ages.Ages, clock=clock), 0.0"""
 # readings each time, and in how many seconds they come: none is late even a period afterwards
 EACH, SOON_READ = 4, LATE - ON_THE_WAY - PERIOD
-OLD = """CREATE TABLE readings (device TEXT, session INTEGER, counter INTEGER,
-    port INTEGER, payload BLOB, came TEXT, PRIMARY KEY (device, session, counter))"""
 
 
 class Played(Link):
@@ -227,14 +225,9 @@ def compare(events: list[dict], rows: dict, sent: list[float], last: float) -> N
         assert not is_away or seconds(event["earliest"]) == last - ON_THE_WAY < sent[counter]
 
 
-def test_database_of_an_earlier_version(folder: Path) -> None:
-    """A database without the column for bounds gets it, and keeps its readings. What is committed
-    is on the disk (SQLite's synchronous is FULL)."""
+def test_database(folder: Path) -> None:
+    """What is committed is on the disk (SQLite's synchronous is FULL), and stays."""
     file = folder / "readings.db"
-    with sqlite3.connect(file) as before:
-        before.execute(OLD)
-        before.execute("INSERT INTO readings VALUES ('A', 1, 0, 7, x'00', 'then')")
-    before.close()
     readings = program_of_pilot("readings")
     words = ["--db", str(file), "--broker", "127.0.0.1:1", "--application", "3"]
     for _ in range(2):
@@ -246,7 +239,7 @@ def test_database_of_an_earlier_version(folder: Path) -> None:
         made.database.close()
     with sqlite3.connect(file) as after:
         rows = after.execute("SELECT device, came, earliest FROM readings").fetchall()
-    assert rows == [("A", "then", None), ("B", "now", "before")]
+    assert rows == [("B", "now", "before")]
 
 
 EVENT = {"time": "now", "deviceInfo": {"devEui": FIRST}, "joinNonce": 1, "fCnt": 0, "fPort": 7}

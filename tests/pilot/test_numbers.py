@@ -9,6 +9,9 @@ from typing import Any
 from bozintar.forwarders import Forwarder
 from bozintar.mqtt import client
 from bozintar.processes import HOST, await_that, free_port
+from console import notices
+from console.history import History
+from console.network import Network
 from fence import marks
 
 from .doors import Doors
@@ -168,6 +171,14 @@ def of_door(doors: Doors) -> set[str]:
     return set(samples(Path(file).read_text(encoding="utf-8")))
 
 
+def of_console(folder: Path) -> set[str]:
+    """The names of the numbers that the console writes."""
+    kept = History(str(folder / "console.db"))
+    found = {metric.written for metric in notices.numbers(Network(kept))}
+    kept.close()
+    return found
+
+
 def test_alerts(doors: Doors, folder: Path) -> None:
     """Each alert speaks of numbers that there are."""
     pilot = doors.pilot
@@ -175,7 +186,7 @@ def test_alerts(doors: Doors, folder: Path) -> None:
     found = of_metrics(folder, f"{HOST}:{pilot.broker_port}") | of_door(doors)
     found = found.union(*(of_bridge(pilot, name) for name in BRIDGES))
     found |= of_stores(pilot, "router") | of_stores(pilot, "applications-mqtt")
-    found |= set(samples(marks.SHOWN.format(0)))
+    found |= set(samples(marks.SHOWN.format(0))) | of_console(folder)
     assert set(ALERTS) <= found, "names that alerts use, and that are numbers"
 
 
