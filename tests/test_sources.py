@@ -33,7 +33,7 @@ SIZES = {
     "packaging": (1241, 0),
     "pilot": (14394, 6300),
     "python": (3674, 0),
-    "tests": (28676, 2850),
+    "tests": (28570, 2850),
     "tools": (7740, 950),
 }
 # Debian's tools, with the settings of pyproject.toml
