@@ -152,10 +152,7 @@ const ROWS: &[(&str, &str)] = &[
     ("retire store", "wrong"),
     ("retire --help", "help"),
     ("grow store --slots 16", "grow store 16 false"),
-    (
-        "grow store --slots 1 --dry-run",
-        "grow store 1 true",
-    ),
+    ("grow store --slots 1 --dry-run", "grow store 1 true"),
     ("grow store", "wrong"),
     ("grow store --slots 0", "wrong"),
     ("grow store larger --slots 16", "wrong"),

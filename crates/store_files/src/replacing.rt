@@ -1,12 +1,11 @@
 // Small files that are replaced as a whole.
 use std::alloc::Global;
-use std::fs;
 use std::fs::{File, OpenOptions, Permissions};
-use std::io;
 use std::io::{ErrorKind, Write};
 use std::os::unix::fs::{OpenOptionsExt, PermissionsExt};
 use std::path::Path;
 use std::rt::Files;
+use std::{fs, io};
 
 /// What follows the name of a file while a new one is written that will replace it.
 pub(crate) const UNFINISHED: &str = ".new";
