@@ -34,7 +34,7 @@ SIZES = {
     "pilot": (14394, 6300),
     "python": (3674, 0),
     "tests": (28676, 2850),
-    "tools": (8252, 950),
+    "tools": (7740, 950),
 }
 # Debian's tools, with the settings of pyproject.toml
 LINTERS = ("pyflakes3", "/usr/bin/python3 -m black -q --check")
