@@ -45,11 +45,11 @@ fn cut(alloc: Global, old_calls: u64, new_calls: u64) -> Result<(MemDisk, MemDis
         },
         Err(
             NotGrown {
-                old,
-                new,
+                old_disk,
+                new_disk,
                 refusal: Refusal::DeviceFailed,
             },
-        ) => (old, new),
+        ) => (old_disk, new_disk),
         Err(NotGrown { refusal, .. }) => return Err(refusal),
     };
     old.arm(u64::MAX);

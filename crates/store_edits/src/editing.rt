@@ -174,8 +174,14 @@ pub fn grow_store<R: Files<File = File>>(
     let (disk, made) = create(rt, place.beside(), slots)?;
     let grown = match grow_into(alloc, store, table, disk) {
         Ok(grown) => grown,
-        Err(NotGrown { new, refusal, .. }) => {
-            return Err(remove_new(rt, made, new, FileFault::Refused(refusal)).into());
+        Err(
+            NotGrown {
+                new_disk,
+                refusal,
+                ..
+            },
+        ) => {
+            return Err(remove_new(rt, made, new_disk, FileFault::Refused(refusal)).into());
         }
     };
     match put_in_place(rt, alloc, file, &place, &made) {
