@@ -15,7 +15,7 @@ from bozintar.links import Application, Gateway, Link
 from bozintar.processes import await_that
 from bozintar.server import Program
 from bozintar.store import Record
-from lnsd.anew import PATIENCE, await_status, connect_anew, used
+from lnsd.anew import PATIENCE, Used, await_status, connect_anew, used
 from lnsd.unread import await_read
 
 from ..clocks import Clock, await_rest, held_syncs, sleeps
@@ -350,13 +350,19 @@ def test_greetings_while_it_stands_still(server: Program) -> None:
     assert_stopped(server, silent=1)
 
 
+def used_after(server: Program, links: int) -> Used:
+    """What the server has after this many links, once the thread that answered is gone, too."""
+    connect_anew(server, links)
+    await_rest(server)
+    return used(server)
+
+
 @pytest.mark.slow
 @pytest.mark.usefixtures("proved")
 def test_links_that_come_anew(empty: Program) -> None:
     """10,000 links come anew, by one name and by many, ended, reset and taken over: no descriptor,
     no thread and no memory remains."""
-    before = connect_anew(empty, 100)
-    after = connect_anew(empty, ANEW)
+    before, after = (used_after(empty, links) for links in (100, ANEW))
     assert after[1:] == before[1:], "descriptors and threads"
     assert after[0] - before[0] < LEAK, "memory in KiB"
     assert empty.stop()[0] == 0
