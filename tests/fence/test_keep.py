@@ -140,17 +140,17 @@ def test_changed_devices(served: tuple[Kept, str, Process]) -> None:
     the operator's word alone."""
     kept, file, keeper = served
     kept.decide()
-    device, larger = DEVICE.format(kept.count), kept.file("larger")
+    device = DEVICE.format(kept.count)
     number = kept.stop(keeper)
     subprocess.run([kept.program, "retire", file, device], check=True)
     due = f"another copy, at {number}: the store ended well at {number}"
     assert kept.refused(file) == due
     assert kept.stores("replace", kept.name, file, 1)[0] == 0
     assert kept.stop(kept.serves(file)) == number
-    subprocess.run([kept.program, "grow", file, larger, "--slots", str(2 * SLOTS)], check=True)
-    assert kept.refused(larger).startswith("another copy, ")
-    assert kept.stores("replace", kept.name, larger, 2)[0] == 0
-    keeper = kept.serves(larger)
+    subprocess.run([kept.program, "grow", file, "--slots", str(2 * SLOTS)], check=True)
+    assert kept.refused(file).startswith("another copy, ")
+    assert kept.stores("replace", kept.name, file, 2)[0] == 0
+    keeper = kept.serves(file)
     assert kept.decide() == kept.stop(keeper)
 
 

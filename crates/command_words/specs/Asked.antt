@@ -63,7 +63,7 @@ edit_word (edit.Import csv file dry_run) = codes "import"
 edit_word (edit.ImportAsNew csv file net_id slots dry_run) = codes "import"
 edit_word (edit.Amend file csv dry_run) = codes "amend"
 edit_word (edit.Retire file dev_euis dry_run) = codes "retire"
-edit_word (edit.Grow file new_file slots dry_run) = codes "grow"
+edit_word (edit.Grow file slots dry_run) = codes "grow"
 
 -- the file of the store
 abbrev pub edit_file : Edit → Text
@@ -72,7 +72,7 @@ edit_file (edit.Import csv file dry_run) = file.now
 edit_file (edit.ImportAsNew csv file net_id slots dry_run) = file.now
 edit_file (edit.Amend file csv dry_run) = file.now
 edit_file (edit.Retire file dev_euis dry_run) = file.now
-edit_file (edit.Grow file new_file slots dry_run) = file.now
+edit_file (edit.Grow file slots dry_run) = file.now
 
 -- its other words and its options have these values
 abbrev pub HasEditOptions : List Row → Edit → Type 0
@@ -86,9 +86,8 @@ HasEditOptions rows (edit.Amend file csv dry_run) =
     (first_of (codes "csv") rows ≡ Some csv.now) × IsDryRun rows dry_run
 HasEditOptions rows (edit.Retire file dev_euis dry_run) =
     (all_of (codes "deveui") rows ≡ Some (map eui_text dev_euis.items)) × IsDryRun rows dry_run
-HasEditOptions rows (edit.Grow file new_file slots dry_run) =
-    (first_of (codes "new") rows ≡ Some new_file.now) × IsNumberOf (codes "slots") rows slots
-    × IsDryRun rows dry_run
+HasEditOptions rows (edit.Grow file slots dry_run) =
+    IsNumberOf (codes "slots") rows slots × IsDryRun rows dry_run
 
 -- the word of its command
 abbrev pub command_word : Mode → Text
@@ -158,7 +157,7 @@ IsEditInRange (edit.Import csv file dry_run) = Unit
 IsEditInRange (edit.ImportAsNew csv file net_id slots dry_run) = (net_id < 64) × AreSlots slots
 IsEditInRange (edit.Amend file csv dry_run) = Unit
 IsEditInRange (edit.Retire file dev_euis dry_run) = AllByRecursion FitsEui dev_euis.items
-IsEditInRange (edit.Grow file new_file slots dry_run) = AreSlots slots
+IsEditInRange (edit.Grow file slots dry_run) = AreSlots slots
 
 abbrev pub IsInRange : Mode → Type 0
 IsInRange (mode.Edit e) = IsEditInRange e

@@ -103,8 +103,8 @@ retire_line = with_rule (with_rule (with_rule (new_app (codes "retire"))
     (word (codes "file"))) (several_words (codes "deveui"))) (flag_option (codes "dry-run"))
 
 abbrev pub grow_line : App
-grow_line = with_rule (with_rule (with_rule (with_rule (new_app (codes "grow"))
-    (word (codes "file"))) (word (codes "new"))) slots_option) (flag_option (codes "dry-run"))
+grow_line = with_rule (with_rule (with_rule (new_app (codes "grow"))
+    (word (codes "file"))) slots_option) (flag_option (codes "dry-run"))
 
 -- `lnsd` without the name of the program, before its commands
 abbrev pub top_line : App

@@ -162,7 +162,6 @@ impl<'x, 'a> Given<'x, 'a> {
     {
         Some(Mode::Edit(Edit::Grow {
             file: self.file,
-            new: self.matches.get_str("new")?,
             slots: number_given(self.matches, "slots")?,
             dry_run: is_given(self.matches, "dry-run"),
         }))

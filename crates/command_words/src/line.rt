@@ -37,7 +37,7 @@ Examples:
   lnsd import devices.csv store
   lnsd amend store changes.csv
   lnsd retire store 0000000000000001
-  lnsd grow store larger --slots 1024";
+  lnsd grow store --slots 1024";
 
 const FORMAT_EXAMPLE: &str = "\
 Example: a store of network 00002A with room for 64 devices
@@ -112,7 +112,7 @@ Example:
 
 const GROW_EXAMPLE: &str = "\
 Example: a store with room for 1024 devices
-  lnsd grow store larger --slots 1024";
+  lnsd grow store --slots 1024";
 
 /// The command line of `lnsd`, without the program's own name.
 pub(crate) fn lnsd<'a>(alloc: Global) -> Result<Command<'a>, AllocError>
@@ -344,13 +344,9 @@ pub(crate) fn retire_command<'a>(alloc: Global) -> Result<Command<'a>, AllocErro
 fn grow_command<'a>(alloc: Global) -> Result<Command<'a>, AllocError>
     ensures { IsCommand grow_line result }
 {
-    let about = "Makes a store with more slots in a new file, and closes the old one";
-    let help = "The file of the store, which is no store after that";
-    let old = word(alloc, "file", "OLD", help);
-    let help = "The file of the larger store, which must not exist yet";
-    let new = word(alloc, "new", "NEW", help);
-    let grow = file_command(alloc, "grow", about, GROW_EXAMPLE, old);
-    with_arg(with_arg(with_arg(grow, new), slots(alloc)), dry_run(alloc))
+    let about = "Gives a store that isn't being served more slots";
+    let grow = file_command(alloc, "grow", about, GROW_EXAMPLE, store_file(alloc));
+    with_arg(with_arg(grow, slots(alloc)), dry_run(alloc))
 }
 
 fn list_file<'a>(alloc: Global) -> Arg<'a>

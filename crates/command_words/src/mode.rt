@@ -104,10 +104,9 @@ pub enum Edit<'a> {
         dev_euis: Vec<Eui>,
         dry_run: bool,
     },
-    /// To make a store with its devices and this number of slots, in the new file `new`.
+    /// To replace it by a store with its devices and this number of slots.
     Grow {
         file: &'a str,
-        new: &'a str,
         slots: Ranged<1, 4096>,
         dry_run: bool,
     },

@@ -39,23 +39,16 @@ fn cut(alloc: Global, old_calls: u64, new_calls: u64) -> Result<(MemDisk, MemDis
     let mut disk = blank(alloc, disk_len(slots(MORE)?) as usize)?;
     disk.arm(new_calls.saturating_add(1));
     let (mut old, mut new) = match grow_into(alloc, old, table, disk) {
-        Ok((old, new)) => (old, new.close()),
-        Err(
-            NotGrown::NotMade {
-                old,
-                disk,
-                refusal: Refusal::DeviceFailed,
-            },
-        ) => (old, disk),
-        Err(
-            NotGrown::NotClosed {
-                old,
-                new,
-                refusal: Refusal::DeviceFailed,
-            },
-        ) => (old, new.close()),
-        Err(NotGrown::NotMade { refusal, .. }) => return Err(refusal),
-        Err(NotGrown::NotClosed { refusal, .. }) => return Err(refusal),
+        Ok(grown) => match grown.close_old() {
+            Ok((old, new)) => (old, new.close()),
+            Err((old, new)) => (old, new.close()),
+        },
+        Err(NotGrown {
+            old,
+            new,
+            refusal: Refusal::DeviceFailed,
+        }) => (old, new),
+        Err(NotGrown { refusal, .. }) => return Err(refusal),
     };
     old.arm(u64::MAX);
     new.arm(u64::MAX);
@@ -132,5 +125,26 @@ fn the_old_store_is_closed_in_the_end(rt: HostRuntime) {
             Err(refusal) => Err(refusal),
         };
         assert!(rt; found == Err(Refusal::NotFormatted), "{found:?}");
+    }
+}
+
+#[test]
+fn both_stores_are_whole_if_the_larger_one_is_given_up(rt: HostRuntime) {
+    let alloc = rt.alloc();
+    for image in &images() {
+        let (old, new) = given_up(alloc).expect(&rt, "both stores");
+        let found = (
+            found_after(alloc, old, image),
+            found_after(alloc, new, image),
+        );
+        assert!(rt; found == (OLD, NEW), "{found:?}");
+    }
+}
+
+fn given_up(alloc: Global) -> Result<(MemDisk, MemDisk), Refusal> {
+    let disk = blank(alloc, disk_len(slots(MORE)?) as usize)?;
+    match grow_into(alloc, old_store(alloc)?, table_of_one(alloc, MORE)?, disk) {
+        Ok(grown) => Ok(grown.give_up()),
+        Err(NotGrown { refusal, .. }) => Err(refusal),
     }
 }

@@ -27,6 +27,7 @@ fault_of_file file.Changing = Changing
 fault_of_file (file.Record path) = Record path
 fault_of_file (file.Line path line) = RecordLine path line
 fault_of_file (file.Spent dev_eui) = Spent dev_eui
+fault_of_file file.Random = Random
 fault_of_file (file.Refused refusal) = Refused refusal
 
 -- the fault of a command that couldn't list or change the devices of a store
@@ -35,4 +36,3 @@ fault_of_edit (edit.File file) = fault_of_file file
 fault_of_edit (edit.List text) = fault.List text
 fault_of_edit (edit.NotMore slots) = Slots slots
 fault_of_edit edit.NotClosed = NotClosed
-fault_of_edit edit.Random = Random

@@ -49,10 +49,9 @@ pub(crate) fn edit<R: Files<File = File>>(
         } => retire_devices(rt, alloc, file, dev_euis.as_slice(), DryRun(dry_run))?,
         Edit::Grow {
             file,
-            new,
             slots,
             dry_run,
-        } => grow_store(rt, alloc, file, new, slots, DryRun(dry_run))?,
+        } => grow_store(rt, alloc, file, slots, DryRun(dry_run))?,
     };
     counts_text(alloc, &counts)
 }

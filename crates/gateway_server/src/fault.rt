@@ -69,7 +69,7 @@ pub enum Fault {
     /// The store has this number of slots already.
     #[error("slots {0}")]
     Slots(u64),
-    /// The larger store was made, and the old one may still be open. It must not be served.
+    /// The larger store is in the place of the old one, which may still be open under another name.
     #[error("not closed")]
     NotClosed,
     /// The system has no random numbers.
@@ -123,6 +123,7 @@ impl From<FileFault> for Fault {
             FileFault::Record(path) => Fault::Record(path),
             FileFault::Line(path, line) => Fault::RecordLine(path, line),
             FileFault::Spent(dev_eui) => Fault::Spent(dev_eui),
+            FileFault::Random => Fault::Random,
             FileFault::Refused(refusal) => Fault::Refused(refusal),
         }
     }
@@ -140,7 +141,6 @@ impl From<EditFault> for Fault {
             EditFault::List(text) => Fault::List(text),
             EditFault::NotMore(slots) => Fault::Slots(slots),
             EditFault::NotClosed => Fault::NotClosed,
-            EditFault::Random => Fault::Random,
         }
     }
 }

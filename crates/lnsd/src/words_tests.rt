@@ -151,14 +151,14 @@ const ROWS: &[(&str, &str)] = &[
     ("retire store 111213141516171a", "wrong"),
     ("retire store", "wrong"),
     ("retire --help", "help"),
-    ("grow store larger --slots 16", "grow store larger 16 false"),
+    ("grow store --slots 16", "grow store 16 false"),
     (
-        "grow store larger --slots 1 --dry-run",
-        "grow store larger 1 true",
+        "grow store --slots 1 --dry-run",
+        "grow store 1 true",
     ),
-    ("grow store larger", "wrong"),
-    ("grow store larger --slots 0", "wrong"),
-    ("grow store --slots 16", "wrong"),
+    ("grow store", "wrong"),
+    ("grow store --slots 0", "wrong"),
+    ("grow store larger --slots 16", "wrong"),
     ("grow --help", "help"),
     ("--help", "help"),
     ("-h", "help"),
@@ -265,12 +265,11 @@ fn edit_of(alloc: Global, edit: &Edit<'_>) -> Result<String, AllocError> {
         },
         Edit::Grow {
             file,
-            new,
             slots,
             dry_run,
         } => {
             let slots = slots.get();
-            format!(in alloc; "grow {file} {new} {slots} {dry_run}")
+            format!(in alloc; "grow {file} {slots} {dry_run}")
         }
     }
 }

@@ -1,5 +1,6 @@
 -- What becomes of a store whose devices are changed.
-use Rattle.std.specs.Prelude.{◌≡◌, ◌≢◌, ◌⊎◌, [], List, slice_index}
+use Rattle.std.specs.Prelude.{◌≡◌, ◌≢◌, ◌⊎◌, ℕ, [], List, Err, slice_index}
+use Rattle.disk.specs.declared.disk.Disk.{Ghosts}
 use Rattle.disk.specs.State.{EveryImage, State}
 use Rattle.device_changes.specs.Faults.{faults_of}
 use Rattle.device_changes.specs.Marks.{KeepsMarks}
@@ -11,7 +12,7 @@ use Rattle.store_edits.specs.declared.changes.NotChanged.TheVariants.{Rows, Stor
 use Rattle.gate_log.specs.declared.layout.TheConstants.{OPEN}
 use Rattle.sessions.specs.Table.{TableState}
 use Rattle.store_edits.specs.declared.changes.NotGrown.{NotGrown}
-use Rattle.store_edits.specs.declared.changes.NotGrown.TheVariants.{NotMade, NotClosed}
+use Rattle.store.specs.Establishing.{IsEstablished}
 use Rattle.store.specs.Image.{HoldsTable}
 use Rattle.store.specs.State.{IsSettled, StoreState, store_state}
 
@@ -53,18 +54,9 @@ abbrev pub HoldsOldOrNone : StoreState → State → Type 0
 HoldsOldOrNone old disk =
     EveryImage disk (λ image. (slice_index image 0 ≢ OPEN) ⊎ HoldsTable old.table old.seq image)
 
-abbrev pub old_disk : {D E : Type 0} {g : _} → NotGrown D E g → D
-old_disk (NotMade old disk refusal) = old
-old_disk (NotClosed old new refusal) = old
-
--- if the new store wasn't made, the old disk is as it was
-abbrev pub IsNotMadeWith : {D E : Type 0} {g : _} → D → NotGrown D E g → Type 0
-IsNotMadeWith at (NotMade old disk refusal) = old ≡ at
-IsNotMadeWith at (NotClosed old new refusal) = Unit {0}
-
--- if the old store may not be closed, the new one is made
-abbrev pub IsNotClosedAfter : {D E : Type 0} {g : _} → (E → State) → TableState → StoreState
-    → NotGrown D E g → Type 0
-IsNotClosedAfter state table before (NotMade old disk refusal) = Unit {0}
-IsNotClosedAfter state table before (NotClosed old new refusal) =
-    IsSettled (store_state state new) × IsMadeOf table before (store_state state new)
+-- A larger store wasn't made: the old disk is as it was, and the new one has what a store that
+-- couldn't be established leaves there, with the cause.
+abbrev pub IsNotGrown : {D E : Type 0} → (disk : Ghosts E) → D → E → TableState → ℕ
+    → NotGrown D E → Type 0
+IsNotGrown disk old new t seq e =
+    (e.old ≡ old) × IsEstablished disk new t seq (Err (e.new, e.refusal))

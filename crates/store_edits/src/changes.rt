@@ -1,10 +1,9 @@
 // Changing the devices of a store.
-ghost use Rattle.std.specs.Prelude.{IfErr, IfOk};
+ghost use Rattle.std.specs.Prelude.{◌≡◌, ◌+◌, IfErr, IfOk, MatchResult};
 ghost use Rattle.store.specs.Formatting.{IsShut};
 ghost use Rattle.store.specs.State.{IsSettled, disk_of, store_state};
 ghost use Rattle.store_edits.specs.Changes.{HasChanges, HoldsOldOrChanged, HoldsOldOrNone};
-ghost use Rattle.store_edits.specs.Changes.{IsMadeOf, IsNotClosedAfter, IsNotMadeWith, IsRefusal};
-ghost use Rattle.store_edits.specs.Changes.{disk_left, old_disk};
+ghost use Rattle.store_edits.specs.Changes.{IsMadeOf, IsNotGrown, IsRefusal, disk_left};
 
 use device_changes::{Change, Refused, changed_table};
 use disk::Disk;
@@ -49,53 +48,73 @@ pub fn store_with_changes<D: Disk + Drop>(
     }
 }
 
-/// Why a store wasn't replaced by a larger one.
+/// Why a larger store wasn't made, with both disks. The old one is as it was.
 #[derive(Drop)]
-pub enum NotGrown<D, E: Disk> {
-    /// The new one wasn't made. The old disk is as it was.
-    NotMade {
-        old: D,
-        disk: E,
-        refusal: Refusal,
-    },
-    /// The new one was made. The old one may not be closed.
-    NotClosed {
-        old: D,
-        new: Store<E>,
-        refusal: Refusal,
-    },
+pub struct NotGrown<D, E> {
+    pub old: D,
+    pub new: E,
+    pub refusal: Refusal,
 }
 
-/// Makes a store with this table, and the old one's number, on another disk. After that closes the
-/// old one: its disk holds no store. After a crash at any moment the old disk holds the old store,
-/// or the new disk holds the new one, and the old disk is closed only after the new one is synced.
+/// A store that was made on another disk, with the number of an old one. The old one is still open,
+/// and both are whole: exactly one may be served from now on. So this value must be spent: the old
+/// one is closed, or the new one is given up.
+pub struct Grown<D: Disk, E: Disk> {
+    old: Store<D>,
+    new: Store<E>,
+}
+
+/// Makes a store with this table, and the old one's number, on another disk. Nothing is written to
+/// the old disk.
 pub fn grow_into<D: Disk + Drop, E: Disk + Drop>(
     alloc: Global,
     old: Store<D>,
     table: Table,
     disk: E,
-) -> Result<(D, Store<E>), NotGrown<D, E>>
-    ensures made { IfOk result (λ r. IsMadeOf table (store_state D.state old)
-        (store_state E.state r.1)) }
-    ensures settled { E.honest → IfOk result (λ r. IsSettled (store_state E.state r.1)) }
-    ensures closed { D.honest → IfOk result (λ r. IsShut (D.state r.0)) }
-    ensures not_made { IfErr result (λ e. IsNotMadeWith (disk_of old) e) }
-    ensures not_closed { E.honest → IfErr result
-        (IsNotClosedAfter E.state table (store_state D.state old)) }
-    ensures images { D.honest → IsSettled (store_state D.state old) → IfErr result
-        (λ e. HoldsOldOrNone (store_state D.state old) (D.state (old_disk e))) }
+) -> Result<Grown<D, E>, NotGrown<D, E>>
+    ensures made { IfOk result (λ grown. IsMadeOf table (store_state D.state old)
+        (store_state E.state grown.new)) }
+    ensures settled { E.honest → IfOk result (λ grown. IsSettled (store_state E.state grown.new)) }
+    ensures same { IfOk result (λ grown. grown.old ≡ old) }
+    ensures refused { IfErr result (IsNotGrown E.Disk (disk_of old) disk table
+        (store_state D.state old).seq) }
 {
-    store::laws::a_settled_store_is_on_its_disk();
     let seq = old.seq();
     match establish_back(alloc, disk, table, seq) {
-        Err((disk, refusal)) => Err(NotGrown::NotMade {
+        Ok(new) => Ok(Grown { old, new }),
+        Err((new, refusal)) => Err(NotGrown {
             old: old.close(),
-            disk,
+            new,
             refusal,
         }),
-        Ok(new) => match old.shut() {
+    }
+}
+
+impl<D: Disk + Drop, E: Disk + Drop> Grown<D, E> {
+    /// Closes the old store: after that its disk holds no store. After a crash at any moment it
+    /// holds the old store, or none. If a call of its disk fails, it may still be open.
+    pub fn close_old(self) -> Result<(D, Store<E>), (D, Store<E>)>
+        ensures closed { D.honest → IfOk result (λ r. IsShut (D.state r.0)) }
+        ensures images { D.honest → IsSettled (store_state D.state self.old)
+            → IfErr result (λ r. HoldsOldOrNone (store_state D.state self.old) (D.state r.0)) }
+        ensures cause { MatchResult result
+            (λ r. D.failures r.0 ≡ D.failures (disk_of self.old))
+            (λ r. D.failures r.0 ≡ D.failures (disk_of self.old) + 1) }
+        ensures same { MatchResult result (λ r. r.1 ≡ self.new) (λ r. r.1 ≡ self.new) }
+    {
+        let Grown { old, new } = self;
+        match old.shut() {
             Ok(old) => Ok((old, new)),
-            Err((old, refusal)) => Err(NotGrown::NotClosed { old, new, refusal }),
-        },
+            Err((old, _)) => Err((old, new)),
+        }
+    }
+
+    /// Gives the new store up. Nothing is written to either disk.
+    pub fn give_up(self) -> (D, E)
+        ensures old { result.0 ≡ disk_of self.old }
+        ensures new { result.1 ≡ disk_of self.new }
+    {
+        let Grown { old, new } = self;
+        (old.close(), new.close())
     }
 }

@@ -18,8 +18,11 @@ use sessions::{Slots, Table};
 use std::alloc::{AllocError, Global};
 use std::fs::File;
 use std::rt::Files;
-use store::{Store, establish_back, open};
-use store_files::{FileFault, ReadOnly, create, open_copy, open_disk, remove_new};
+use store::{Store, open};
+use store_files::{
+    FileFault, NewFile, NotPlaced, Place, ReadOnly, create, establish_new, open_copy, open_disk,
+    remove_new, write_identity,
+};
 
 /// Whether a command only finds out what it would do. Then it writes nothing.
 #[derive(Clone, Copy, Debug, PartialEq, Eq)]
@@ -148,38 +151,59 @@ fn retirements<R: Files<File = File>>(
     Ok(rows)
 }
 
-/// Makes a store with more slots in a new file, with the same devices, sessions, queues and number
-/// of the last decision, and then closes the old one, which is no store after that. A crash at any
-/// moment leaves the old store, or the new one, or both: the old one is closed only after the new
-/// one is durable.
+/// Replaces the store in a file by one with more slots, and with the same devices, sessions, queues
+/// and number of the last decision. The larger store is made in a file beside it, durably, and gets
+/// an identity; then it is renamed to the store's name, durably; then the old one is closed. A crash
+/// at any moment leaves the old store or the larger one under the store's name.
 pub fn grow_store<R: Files<File = File>>(
     rt: &R,
     alloc: Global,
-    old: &str,
-    new: &str,
+    file: &str,
     slots: Slots,
     dry_run: DryRun,
 ) -> Result<EditCounts, EditFault> {
     if dry_run.0 {
-        let store = open_for_reading(rt, alloc, old)?;
+        let store = open_for_reading(rt, alloc, file)?;
         let table = larger_table(alloc, store.table(), slots)?;
         return Ok(counts_of(0, store.table(), &table));
     }
-    let store = open_for_edit(rt, alloc, old)?;
+    let store = open_for_edit(rt, alloc, file)?;
     let table = larger_table(alloc, store.table(), slots)?;
     let counts = counts_of(0, store.table(), &table);
-    let (disk, made) = create(rt, new, slots)?;
-    match grow_into(alloc, store, table, disk) {
-        Ok(_) => Ok(counts),
-        Err(
-            NotGrown::NotMade {
-                old: _,
-                disk,
-                refusal,
-            },
-        ) => Err(remove_new(rt, made, disk, FileFault::Refused(refusal)).into()),
-        Err(NotGrown::NotClosed { .. }) => Err(EditFault::NotClosed),
+    let place = Place::of(rt, alloc, file)?;
+    let (disk, made) = create(rt, place.beside(), slots)?;
+    let grown = match grow_into(alloc, store, table, disk) {
+        Ok(grown) => grown,
+        Err(NotGrown { new, refusal, .. }) => {
+            return Err(remove_new(rt, made, new, FileFault::Refused(refusal)).into());
+        }
+    };
+    match put_in_place(rt, alloc, file, &place, &made) {
+        Ok(()) => match grown.close_old() {
+            Ok(_) => Ok(counts),
+            Err(_) => Err(EditFault::NotClosed),
+        },
+        Err(why) => {
+            let (_, new) = grown.give_up();
+            match why {
+                NotPlaced::Old(fault) => Err(remove_new(rt, made, new, fault).into()),
+                NotPlaced::Unsynced => Err(Refusal::DeviceFailed.into()),
+            }
+        }
     }
+}
+
+// Puts a store's new file in the place of the store.
+fn put_in_place<R: Files<File = File>>(
+    rt: &R,
+    alloc: Global,
+    file: &str,
+    place: &Place,
+    made: &NewFile<'_>,
+) -> Result<(), NotPlaced> {
+    place.lend_owner(rt, made).map_err(NotPlaced::Old)?;
+    write_identity(rt, alloc, file).map_err(NotPlaced::Old)?;
+    place.take(rt, made)
 }
 
 // Why nothing was changed.
@@ -260,10 +284,8 @@ fn make<R: Files<File = File>>(
     table: Table,
 ) -> Result<(), EditFault> {
     let (disk, made) = create(rt, file, table.slots())?;
-    match establish_back(alloc, disk, table, 0) {
-        Ok(_) => Ok(()),
-        Err((disk, refusal)) => Err(remove_new(rt, made, disk, FileFault::Refused(refusal)).into()),
-    }
+    let _store = establish_new(rt, alloc, made, disk, table, 0)?;
+    Ok(())
 }
 
 fn larger_table(alloc: Global, table: &Table, slots: Slots) -> Result<Table, EditFault> {

@@ -13,10 +13,8 @@ pub enum EditFault {
     List(String),
     /// The store has this number of slots already.
     NotMore(u64),
-    /// The larger store was made, but the old one may not be closed.
+    /// The larger store is in the place of the old one, which may not be closed.
     NotClosed,
-    /// The system has no random numbers.
-    Random,
 }
 
 impl From<FileFault> for EditFault {

@@ -7,7 +7,7 @@ mod editing;
 mod fault;
 mod reading;
 
-pub use changes::{NotChanged, NotGrown, grow_into, store_with_changes};
+pub use changes::{Grown, NotChanged, NotGrown, grow_into, store_with_changes};
 pub use device_lists::AppKeys;
 pub use editing::{
     DryRun, EditCounts, ExportedStore, amend_devices, export_devices, grow_store, import_as_new,

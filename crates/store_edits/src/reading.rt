@@ -7,15 +7,13 @@ use std::fs::File;
 use std::io;
 use std::io::{ErrorKind, Read};
 use std::rt::Files;
+use store_files::random_bytes;
 
 /// What stands between the lines of a fault that has several.
 pub(crate) const NEXT_LINE: &str = "\nlnsd: ";
 
 // The longest list, in bytes.
 const LONGEST: u64 = 16 << 20;
-
-// The system's random numbers.
-const RANDOM: &str = "/dev/urandom";
 
 /// The changes that the list in a file asks for.
 pub(crate) fn read_changes<R: Files<File = File>>(
@@ -45,15 +43,7 @@ pub(crate) fn list_fault(alloc: Global, csv: &str, lines: &[FaultyLine]) -> Edit
 
 /// A key that nobody knows: 16 random bytes of the system.
 pub(crate) fn random_key<R: Files<File = File>>(rt: &R) -> Result<Key, EditFault> {
-    let mut bytes = [0; 16];
-    match read_random(rt, &mut bytes) {
-        Ok(()) => Ok(Key(bytes)),
-        Err(_) => Err(EditFault::Random),
-    }
-}
-
-fn read_random<R: Files<File = File>>(rt: &R, bytes: &mut [u8]) -> io::Result<()> {
-    File::open(rt, RANDOM)?.read_exact(bytes)
+    Ok(Key(random_bytes(rt)?))
 }
 
 // The bytes of a file that isn't too long for a list.

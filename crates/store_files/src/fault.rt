@@ -19,6 +19,8 @@ pub enum FileFault {
     Line(String, u64),
     /// This device of the copy has too few JoinNonces left.
     Spent(Eui),
+    /// The system has no random numbers.
+    Random,
     /// The store refused, its disk failed, or memory ran out.
     Refused(Refusal),
 }

@@ -3,13 +3,14 @@ ghost use Rattle.std.specs.Prelude.{◌≡◌, ◌<◌, ◌^◌, IfSome, Some};
 ghost use Rattle.store_files.specs.Record.{session_text};
 
 use crate::FileFault;
+use crate::replacing::{folder_of, replace};
 use devices::{Device, SessionName};
 use lw_types::{Eui, FromText, JoinNonce, Refusal};
 use std::alloc::{AllocError, Global};
-use std::fs::{File, OpenOptions};
+use std::fs::File;
 use std::io;
-use std::io::{ErrorKind, Read, Write};
-use std::os::unix::fs::{MetadataExt, OpenOptionsExt};
+use std::io::{ErrorKind, Read};
+use std::os::unix::fs::MetadataExt;
 use std::path::Path;
 use std::rt::Files;
 
@@ -21,6 +22,9 @@ const UNFINISHED_NAME: &str = "lnsd-restored.csv.new";
 
 // The first line of a record. It may also come before any other line.
 const HEADER: &str = "DevEUI,JoinNonce";
+
+// Only the owner of a record may read it.
+const MODE: u32 = 0o600;
 
 // The longest record, in bytes: some 500 restores of 4,096 devices.
 const LONGEST: u64 = 64 << 20;
@@ -89,7 +93,12 @@ impl Record {
             folder,
         } = self;
         let text = with_devices(alloc, text, devices)?;
-        match replace(rt, alloc, &folder, path.as_str(), text.as_str()) {
+        let replaced = if text.len() as u64 > LONGEST {
+            Err(io::Error::from(ErrorKind::FileTooLarge))
+        } else {
+            replace(rt, alloc, &folder, path.as_str(), text.as_str(), MODE)
+        };
+        match replaced {
             Ok(()) => Ok(()),
             Err(error) => Err(fault_of(path, &error)),
         }
@@ -226,41 +235,6 @@ fn locked_text<R: Files<File = File>>(
         Ok(text) => Ok((folder, text)),
         Err(error) if error.kind() == ErrorKind::NotFound => Ok((folder, String::new(alloc))),
         Err(error) => Err(error),
-    }
-}
-
-// Replaces a record by one with this text, which only its owner may read.
-fn replace<R: Files<File = File>>(
-    rt: &R,
-    alloc: Global,
-    folder: &File,
-    path: &str,
-    text: &str,
-) -> io::Result<()> {
-    if text.len() as u64 > LONGEST {
-        return Err(io::Error::from(ErrorKind::FileTooLarge));
-    }
-    let name = folder_of(path);
-    let Ok(unfinished) = format!(in alloc; "{name}/{UNFINISHED_NAME}") else {
-        return Err(io::Error::from(ErrorKind::OutOfMemory));
-    };
-    let mut file = OpenOptions::new()
-        .write(true)
-        .create(true)
-        .truncate(true)
-        .mode(0o600)
-        .open(rt, unfinished.as_str())?;
-    file.write_all(text.as_bytes())?;
-    file.sync_all()?;
-    rt.rename(unfinished.as_str(), path)?;
-    folder.sync_all()
-}
-
-// The folder of a file.
-fn folder_of(file: &str) -> &str {
-    match Path::new(file).parent() {
-        Some(folder) if !folder.as_str().is_empty() => folder.as_str(),
-        _ => ".",
     }
 }
 

@@ -7,7 +7,7 @@ ghost use Rattle.sessions.specs.Table.{TableState};
 ghost use Rattle.store_files.specs.Report.{IsRestoredAs, restored_text};
 
 use crate::FileFault;
-use crate::new_file::{create, remove_new};
+use crate::new_file::{create, establish_new, remove_new};
 use crate::opening::open_copy;
 use crate::record::{NonceFile, Record, are_beside, is_record_name};
 use crate::report::report_of;
@@ -18,7 +18,7 @@ use sessions::Table;
 use std::alloc::Global;
 use std::fs::File;
 use std::rt::Files;
-use store::{Store, establish_back};
+use store::Store;
 
 /// What is to be restored.
 #[derive(Clone, Copy)]
@@ -67,9 +67,9 @@ pub fn restore<R: Files<File = File>>(
     if let Err(fault) = records.add(rt, alloc, table.devices()) {
         return Err(remove_new(rt, made, disk, fault));
     }
-    match establish_back(alloc, disk, table, seq) {
+    match establish_new(rt, alloc, made, disk, table, seq) {
         Ok(store) => Ok(RestoredStore { store, text }),
-        Err((disk, refusal)) => Err(remove_new(rt, made, disk, FileFault::Refused(refusal))),
+        Err(fault) => Err(fault),
     }
 }
 

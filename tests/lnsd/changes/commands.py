@@ -15,6 +15,7 @@ from dataclasses import dataclass, field, replace
 from pathlib import Path
 from typing import Any
 
+from bozintar import image
 from bozintar.server import Program
 
 from ..conftest import Environment
@@ -35,12 +36,13 @@ Due = tuple[Row, bool]
 @dataclass(frozen=True)
 class Changes:
     """What a command changes: the store that it makes or changes, and what is due in it. Until then
-    the store from which it makes that is as it was; it is closed if it is another file."""
+    the store that was there is as it was. The lengths of both files may be given."""
 
     target: str
     after: list[Due]
     source: str = ""
     before: list[Due] = field(default_factory=list)
+    lengths: tuple[int, int] = (0, 0)
 
     def on(self, names: Callable[[str], str]) -> "Changes":
         """The same of other files."""
@@ -76,10 +78,11 @@ class Commands:
         assert (status, said) == (0, ""), f"lnsd export ended so: {status} {said}"
         return rows_in(out)
 
-    def is_as(self, due: Sequence[Due], store: str) -> bool:
-        """Whether a store has just these devices. A retired one has another key than it had."""
+    def is_as(self, due: Sequence[Due], store: str, length: int = 0) -> bool:
+        """Whether a store has just these devices, and its file this length, if that is given. A
+        retired device has another key than it had."""
         rows = self.exported(store, "--keys")
-        if rows is None or len(rows) != len(due):
+        if rows is None or len(rows) != len(due) or length not in (0, os.path.getsize(store)):
             return False
         for row, (expected, is_retired) in zip(rows, due):
             if is_retired == (row["AppKey"] == expected["AppKey"]):
@@ -110,16 +113,14 @@ class Commands:
         with self.copies(words, changes) as (said, copied):
             ended = self.program.run(*said)
             assert ended == (0, due, ""), f"{words[0]} ended so: {ended}, and not with {due!r}"
-            assert self.is_as(copied.after, copied.target), f"{words[0]}: what is due isn't there"
-            if copied.source not in ("", copied.target):
-                assert self.is_absent(copied.source), f"{words[0]} closes the old store"
+            assert self.is_done(words[0], copied), f"{words[0]}: what is due isn't there"
         self.killed_in_calls(words, changes)
         for _ in range(KILLS):
             self.kill(words, self.chance.uniform(0, 1.2 * seconds))
             if self.is_done(words[0], changes):
                 return due
         assert self.program.run(*words) == (0, due, "")
-        assert self.is_as(changes.after, changes.target), f"{words[0]}: what is due isn't there"
+        assert self.is_done(words[0], changes), f"{words[0]}: what is due isn't there"
         return due
 
     @contextmanager
@@ -131,7 +132,8 @@ class Commands:
                 shutil.copy(file, copy)
         yield [names.get(word, word) for word in words], changes.on(lambda file: names[file])
         for copy in names.values():
-            Path(copy).unlink(missing_ok=True)
+            for left in Path(copy).parent.glob(f"{Path(copy).name}*"):
+                left.unlink()
 
     def killed_in_calls(self, words: Sequence[str], changes: Changes) -> None:
         """A command is killed in the first calls of the disk, in the last ones, and in some between
@@ -160,10 +162,12 @@ class Commands:
 
     def is_done(self, name: str, changes: Changes) -> bool:
         """Whether a command that was killed is done. If it isn't, nothing has changed."""
-        if self.is_as(changes.after, changes.target):
+        if self.is_as(changes.after, changes.target, changes.lengths[1]):
             return True
         self.killed += 1
-        is_before = not changes.source or self.is_as(changes.before, changes.source)
+        is_before = not changes.source or self.is_as(
+            changes.before, changes.source, changes.lengths[0]
+        )
         if changes.source != changes.target:
             is_before &= self.is_absent(changes.target)
         assert is_before, f"{name}, killed, leaves neither what was nor what is due"
@@ -191,6 +195,11 @@ class Commands:
 def due_of(subscribers: Sequence[Subscriber]) -> list[Due]:
     """What is due in a list of these devices, as they are now."""
     return [(subscriber.row(), subscriber.is_retired) for subscriber in subscribers]
+
+
+def length_of(slots: int) -> int:
+    """How long the file of a store with this many slots is."""
+    return image.SUPERBLOCK + 2 * (image.HEADER + image.ENTRY * slots + image.BATCHES)
 
 
 def content(file: str) -> bytes | None:

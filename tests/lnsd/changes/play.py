@@ -7,7 +7,7 @@ from collections.abc import Callable, Sequence
 from bozintar.frames import Keys
 
 from ..seen import Rule, Seen
-from .commands import Changes, Commands, due_of, has_number
+from .commands import Changes, Commands, due_of, has_number, length_of
 from .network import Network, judged
 from .subscribers import COLUMNS, Subscriber, listed, made
 
@@ -164,14 +164,10 @@ class Play:
         self.joining.append(device)
 
     def grow(self) -> None:
-        """The store gets more slots, in another file; the old one is closed then."""
-        old, new = self.store, f"{self.store}-grown"
-        due = due_of(self.devices)
-        words = ("grow", old, new, "--slots", str(MORE_SLOTS))
-        self.commands.does(words, Changes(new, due, old, due))
-        # a kill may leave the old one open; nobody serves it
-        os.remove(old)
-        self.store = self.program.store = new
+        """The store gets more slots."""
+        due, lengths = due_of(self.devices), (length_of(SLOTS), length_of(MORE_SLOTS))
+        words = ("grow", self.store, "--slots", str(MORE_SLOTS))
+        self.commands.does(words, Changes(self.store, due, self.store, due, lengths))
 
     def import_more(self) -> None:
         """Devices are added to the store, more than it had slots before."""

@@ -7,7 +7,7 @@ import os
 import pytest
 from lnsd.calls import kinds_of
 
-from .commands import Changes, Commands, due_of
+from .commands import Changes, Commands, due_of, length_of
 from .play import AMENDED, NET_ID
 from .subscribers import listed, made
 
@@ -19,8 +19,8 @@ COMMANDS = {
     "amend": ("amend {old} {list}", {FAILED, LIST}),
     "import": ("import {list} {old}", {FAILED, LIST}),
     "retire": ("retire {old} {first}", {FAILED, RANDOM}),
-    "make": ("import {list} {new} --netid 00002A --slots 4", {FAILED, LIST, FILE}),
-    "grow": ("grow {old} {new} --slots 5", {FAILED, FILE, NOT_CLOSED}),
+    "make": ("import {list} {new} --netid 00002A --slots 4", {FAILED, LIST, FILE, RANDOM}),
+    "grow": ("grow {old} --slots 5", {FAILED, FILE, NOT_CLOSED, RANDOM}),
     "copy": ("copy {old} {new}", {FAILED, FILE}),
 }
 
@@ -36,8 +36,9 @@ def prepared(commands: Commands, name: str) -> tuple[dict[str, str], Changes]:
     changed = first if name == "amend" else more
     file = commands.file("list", listed([changed.row()], AMENDED))
     after = {"import": [*devices, more], "make": [more]}.get(name, devices)
-    target = old if name in ("amend", "import", "retire") else new
-    changes = Changes(target, due_of(after), "" if name == "make" else old, before)
+    target = new if name in ("make", "copy") else old
+    lengths = (length_of(4), length_of(5)) if name == "grow" else (0, 0)
+    changes = Changes(target, due_of(after), "" if name == "make" else old, before, lengths)
     return {"old": old, "new": new, "list": file, "first": first.dev_eui}, changes
 
 
@@ -52,7 +53,8 @@ def fails(number: int, commands: Commands, words: list[str], changes: Changes) -
         is_there = os.path.exists(copied.target)
         is_done = commands.is_done(words[0], copied)
         if copied.target != copied.source:
-            assert is_there == is_done == (NOT_CLOSED in message), f"call {number}: {message}"
+            assert not is_there and not is_done, f"call {number}: {message}"
+        assert is_done or NOT_CLOSED not in message, f"call {number}: {message}"
     assert "x" not in kinds_of(log), f"call {number}"
     return message
 

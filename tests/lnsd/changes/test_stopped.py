@@ -17,7 +17,7 @@ FIRST, SECOND = map(load.dev_eui, range(2))
 NEW, NEWER = "FEEDFACE00000001", "FEEDFACE00000002"
 HEAD = "DevEUI,JoinEUI,AppKey,Application,Delay,LastJoinNonce"
 ADD, AMEND, RETIRE = "import {list} {old}", "amend {old} {list}", "retire {old}"
-MAKE, GROW = "import {list} {new} --netid 00002A --slots", "grow {old} {new} --slots"
+MAKE, GROW = "import {list} {new} --netid 00002A --slots", "grow {old} --slots"
 # what is said of a line of a list
 LINE = "{{list}} line {}: {}"
 TAKEN, UNKNOWN = "the store has this DevEUI already", "the store doesn't have this DevEUI"
@@ -57,7 +57,6 @@ REFUSED: tuple[tuple[str, Sequence[str], Sequence[str]], ...] = (
     (f"{RETIRE} {FIRST} {SECOND} {FIRST}", (), [f"{FIRST}: {REPEATED}"]),
     (f"{GROW} 2", (), ["slots 4"]),
     (f"{GROW} 4", (), ["slots 4"]),
-    ("grow {old} {list} --slots 8", (), ["exists"]),
     ("import {list} {old} --netid 00002A --slots 8", (HEAD, line(NEW)), ["exists"]),
 )
 # what only reads the store

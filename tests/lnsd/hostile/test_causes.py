@@ -45,7 +45,7 @@ def words_of(file: str, folder: Path) -> dict[str, tuple[str, ...]]:
         "import": ("import", listed, file),
         "amend": ("amend", file, listed),
         "retire": ("retire", file, EUI),
-        "grow": ("grow", file, new, "--slots", "16"),
+        "grow": ("grow", file, "--slots", "16"),
         "copy": ("copy", file, new),
     }
 
@@ -108,7 +108,7 @@ def can_be_run_by_nobody(program: str) -> bool:
     return all(os.stat(path).st_mode & 0o001 for path in (Path(program), *Path(program).parents))
 
 
-@pytest.mark.parametrize("word", ["restore", "grow", "copy"])
+@pytest.mark.parametrize("word", ["restore", "copy"])
 def test_new_file_in_no_folder(store: Program, folder: Path, word: str) -> None:
     """The folder of a new file isn't there."""
     words = [

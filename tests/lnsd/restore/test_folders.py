@@ -45,12 +45,12 @@ def test_path_without_a_folder(
 
 
 def test_longer_unfinished_record(new_case: NewCase) -> None:
-    """What an interrupted restore left of a record is replaced as a whole."""
+    """What an interrupted restore left of a record is replaced as a whole, and with its mode."""
     case = new_case()
     for path in case.paths:
         left = Path(f"{path}.new")
         left.write_text(f"{HEADER}\n" * 1000, encoding="utf-8")
-        left.chmod(0o600)
+        left.chmod(0o644)
     goes_well_again(case)
 
 
