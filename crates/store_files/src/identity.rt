@@ -23,9 +23,9 @@ const MODE: u32 = 0o644;
 const LENGTH: u64 = 33;
 
 /// Writes the identity of a new store durably, beside it: the file FILE.id has a line of 32
-/// hexadecimal digits, 128 random bits of the system. No command reads it. It tells a program that
-/// watches over stores that this one was made anew, by an operator. It replaces the identity of an
-/// earlier store; a file of another length is something else, and isn't replaced.
+/// hexadecimal digits, 128 random bits of the system. No command reads it. A program
+/// that watches over stores sees by it that an operator made this one. It replaces the identity of
+/// an earlier store; a file of another length is something else, and isn't replaced.
 pub fn write_identity<R: Files<File = File>>(
     rt: &R,
     alloc: Global,

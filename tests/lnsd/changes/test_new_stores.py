@@ -75,8 +75,8 @@ def test_identity_that_is_something_else(server: Program, name: str) -> None:
 
 
 def test_place_of_a_larger_store(server: Program) -> None:
-    """It has the mode and the owner of the old store, behind a link, too; what an interrupted run
-    left is replaced."""
+    """It has the mode and the owner of the old store, also if its name is a link. What an
+    interrupted run left is replaced."""
     words, store = words_of(server, "grow")
     real = store.rename(f"{store}-real")
     store.symlink_to(real)
