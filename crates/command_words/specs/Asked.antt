@@ -1,6 +1,7 @@
 -- What words ask for.
 use Rattle.std.specs.Prelude.{◌≡◌, ◌≢◌, ◌<◌, ◌≤◌, ◌^◌, ◌⊎◌, ℕ, List, [], Option, Some, codes}
-use Rattle.std.specs.Prelude.{None, Bool, MatchOption, true, false, map, option_map}
+use Rattle.std.specs.Prelude.{None, Bool, MatchOption, true, false, map, option_map, unwrap_or}
+use denote.Ref.{Bor}
 use Rattle.std.specs.List.{AllByRecursion}
 use Rattle.std.specs.Str.Parse.{IsNumeral, digits_value, without_leading_plus}
 use Rattle.clap.specs.Words.{IsAmong, Row, Text, all_of, fault_of, first_of, found_of, one_of}
@@ -45,6 +46,10 @@ IsFlagOf id rows given =
 abbrev pub IsDryRun : List Row → Bool → Type 0
 IsDryRun rows dry_run = IsFlagOf (codes "dry-run") rows dry_run
 
+-- the folders that get a record, of which there may be none
+abbrev pub AreRecords : List Row → List (Bor Text) → Type 0
+AreRecords rows folders = unwrap_or (all_of (codes "record") rows) [] ≡ map (λ t. t.now) folders
+
 -- the network of a new store, and its number of slots
 abbrev pub HasNewStore : List Row → ℕ → ℕ → Type 0
 HasNewStore rows net_id slots =
@@ -59,35 +64,38 @@ HasNoNewStore rows =
 -- the word of its command
 abbrev pub edit_word : Edit → Text
 edit_word (edit.Export file keys) = codes "export"
-edit_word (edit.Import csv file dry_run) = codes "import"
+edit_word (edit.Import csv file records dry_run) = codes "import"
 edit_word (edit.ImportAsNew csv file net_id slots dry_run) = codes "import"
-edit_word (edit.Amend file csv dry_run) = codes "amend"
-edit_word (edit.Retire file dev_euis dry_run) = codes "retire"
-edit_word (edit.Grow file slots dry_run) = codes "grow"
+edit_word (edit.Amend file csv records dry_run) = codes "amend"
+edit_word (edit.Retire file dev_euis records dry_run) = codes "retire"
+edit_word (edit.Grow file slots records dry_run) = codes "grow"
 
 -- the file of the store
 abbrev pub edit_file : Edit → Text
 edit_file (edit.Export file keys) = file.now
-edit_file (edit.Import csv file dry_run) = file.now
+edit_file (edit.Import csv file records dry_run) = file.now
 edit_file (edit.ImportAsNew csv file net_id slots dry_run) = file.now
-edit_file (edit.Amend file csv dry_run) = file.now
-edit_file (edit.Retire file dev_euis dry_run) = file.now
-edit_file (edit.Grow file slots dry_run) = file.now
+edit_file (edit.Amend file csv records dry_run) = file.now
+edit_file (edit.Retire file dev_euis records dry_run) = file.now
+edit_file (edit.Grow file slots records dry_run) = file.now
 
 -- its other words and its options have these values
 abbrev pub HasEditOptions : List Row → Edit → Type 0
 HasEditOptions rows (edit.Export file keys) = IsFlagOf (codes "keys") rows keys
-HasEditOptions rows (edit.Import csv file dry_run) =
+HasEditOptions rows (edit.Import csv file records dry_run) =
     (first_of (codes "csv") rows ≡ Some csv.now) × HasNoNewStore rows × IsDryRun rows dry_run
+    × AreRecords rows records.items
 HasEditOptions rows (edit.ImportAsNew csv file net_id slots dry_run) =
     (first_of (codes "csv") rows ≡ Some csv.now) × HasNewStore rows net_id slots
     × IsDryRun rows dry_run
-HasEditOptions rows (edit.Amend file csv dry_run) =
+HasEditOptions rows (edit.Amend file csv records dry_run) =
     (first_of (codes "csv") rows ≡ Some csv.now) × IsDryRun rows dry_run
-HasEditOptions rows (edit.Retire file dev_euis dry_run) =
+    × AreRecords rows records.items
+HasEditOptions rows (edit.Retire file dev_euis records dry_run) =
     (all_of (codes "deveui") rows ≡ Some (map eui_text dev_euis.items)) × IsDryRun rows dry_run
-HasEditOptions rows (edit.Grow file slots dry_run) =
-    IsNumberOf (codes "slots") rows slots × IsDryRun rows dry_run
+    × AreRecords rows records.items
+HasEditOptions rows (edit.Grow file slots records dry_run) =
+    IsNumberOf (codes "slots") rows slots × IsDryRun rows dry_run × AreRecords rows records.items
 
 -- the word of its command
 abbrev pub command_word : Mode → Text
@@ -153,11 +161,11 @@ AreSlots slots = (1 ≤ slots) × (slots ≤ 4096)
 
 abbrev pub IsEditInRange : Edit → Type 0
 IsEditInRange (edit.Export file keys) = Unit
-IsEditInRange (edit.Import csv file dry_run) = Unit
+IsEditInRange (edit.Import csv file records dry_run) = Unit
 IsEditInRange (edit.ImportAsNew csv file net_id slots dry_run) = (net_id < 64) × AreSlots slots
-IsEditInRange (edit.Amend file csv dry_run) = Unit
-IsEditInRange (edit.Retire file dev_euis dry_run) = AllByRecursion FitsEui dev_euis.items
-IsEditInRange (edit.Grow file slots dry_run) = AreSlots slots
+IsEditInRange (edit.Amend file csv records dry_run) = Unit
+IsEditInRange (edit.Retire file dev_euis records dry_run) = AllByRecursion FitsEui dev_euis.items
+IsEditInRange (edit.Grow file slots records dry_run) = AreSlots slots
 
 abbrev pub IsInRange : Mode → Type 0
 IsInRange (mode.Edit e) = IsEditInRange e

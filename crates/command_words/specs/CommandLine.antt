@@ -34,6 +34,14 @@ left_out option = record option { required = false }
 abbrev pub several_words : Text → Rule
 several_words id = record (word id) { action = Some Append }
 
+-- an option that may be left out, or given several times
+abbrev pub repeated_option : Rule → Rule
+repeated_option option = record (left_out option) { action = Some Append }
+
+-- the folders that get a record
+abbrev pub records_option : Rule
+records_option = repeated_option (option (codes "record"))
+
 -- an option without a value
 abbrev pub flag_option : Text → Rule
 flag_option id = record (new_rule id) { long = Some id; action = Some SetTrue }
@@ -90,21 +98,23 @@ export_line = with_rule (with_rule (new_app (codes "export")) (word (codes "file
     (flag_option (codes "keys"))
 
 abbrev pub import_line : App
-import_line = with_rule (with_rule (with_rule (with_rule (with_rule (new_app (codes "import"))
-    (word (codes "csv"))) (word (codes "file"))) (left_out (option (codes "netid"))))
-    (left_out slots_option)) (flag_option (codes "dry-run"))
+import_line = with_rule (with_rule (with_rule (with_rule (with_rule (with_rule
+    (new_app (codes "import")) (word (codes "csv"))) (word (codes "file")))
+    (left_out (option (codes "netid")))) (left_out slots_option)) records_option)
+    (flag_option (codes "dry-run"))
 
 abbrev pub amend_line : App
-amend_line = with_rule (with_rule (with_rule (new_app (codes "amend"))
-    (word (codes "file"))) (word (codes "csv"))) (flag_option (codes "dry-run"))
+amend_line = with_rule (with_rule (with_rule (with_rule (new_app (codes "amend"))
+    (word (codes "file"))) (word (codes "csv"))) records_option) (flag_option (codes "dry-run"))
 
 abbrev pub retire_line : App
-retire_line = with_rule (with_rule (with_rule (new_app (codes "retire"))
-    (word (codes "file"))) (several_words (codes "deveui"))) (flag_option (codes "dry-run"))
+retire_line = with_rule (with_rule (with_rule (with_rule (new_app (codes "retire"))
+    (word (codes "file"))) (several_words (codes "deveui"))) records_option)
+    (flag_option (codes "dry-run"))
 
 abbrev pub grow_line : App
-grow_line = with_rule (with_rule (with_rule (new_app (codes "grow"))
-    (word (codes "file"))) slots_option) (flag_option (codes "dry-run"))
+grow_line = with_rule (with_rule (with_rule (with_rule (new_app (codes "grow"))
+    (word (codes "file"))) slots_option) records_option) (flag_option (codes "dry-run"))
 
 -- `lnsd` without the name of the program, before its commands
 abbrev pub top_line : App

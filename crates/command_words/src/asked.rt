@@ -6,7 +6,8 @@ ghost use Rattle.std.specs.List.{AllByRecursion};
 ghost use Rattle.clap.specs.Words.{first_of, found_of, rows_of};
 ghost use Rattle.lw_types.specs.Hex.{eui_text};
 ghost use Rattle.lw_types.specs.declared.identifiers.Eui.{Eui};
-ghost use Rattle.command_words.specs.Asked.{AreSlots, AsksForExactly, FitsEui, HasNewStore};
+ghost use Rattle.command_words.specs.Asked.{AreRecords, AreSlots, AsksForExactly, FitsEui};
+ghost use Rattle.command_words.specs.Asked.{HasNewStore};
 ghost use Rattle.command_words.specs.Asked.{HasNoNewStore, IsFlagOf, IsNumberOf};
 
 use crate::mode::{Edit, Mode};
@@ -42,10 +43,10 @@ impl<'x, 'a> Given<'x, 'a> {
             "status" => Ok(self.server_status()),
             "restore" => Ok(self.restore()),
             "export" => Ok(Some(self.export())),
-            "import" => Ok(self.import()),
-            "amend" => Ok(self.amend()),
+            "import" => self.import(alloc),
+            "amend" => self.amend(alloc),
             "retire" => self.retire(alloc),
-            "grow" => Ok(self.grow()),
+            "grow" => self.grow(alloc),
             _ => Ok(None),
         }
     }
@@ -114,14 +115,30 @@ impl<'x, 'a> Given<'x, 'a> {
         Mode::Edit(Edit::Export { file, keys })
     }
 
-    fn import(&self) -> Option<Mode<'a>>
+    fn import(&self, alloc: Global) -> Result<Option<Mode<'a>>, AllocError>
+        ensures { IfOk result (AsksForExactly (codes "import") self.now.matches.now) }
+    {
+        if !is_without_new_store(self.matches) {
+            return Ok(self.import_as_new());
+        }
+        let Some(csv) = self.matches.get_str("csv") else {
+            return Ok(None);
+        };
+        let records = record_folders(alloc, self.matches)?;
+        Ok(Some(Mode::Edit(Edit::Import {
+            csv,
+            file: self.file,
+            records,
+            dry_run: is_given(self.matches, "dry-run"),
+        })))
+    }
+
+    fn import_as_new(&self) -> Option<Mode<'a>>
+        requires { HasNoNewStore (rows_of (found_of self.now.matches.now)) → ⊥ }
         ensures { AsksForExactly (codes "import") self.now.matches.now result }
     {
         let (file, csv) = (self.file, self.matches.get_str("csv")?);
         let dry_run = is_given(self.matches, "dry-run");
-        if is_without_new_store(self.matches) {
-            return Some(Mode::Edit(Edit::Import { csv, file, dry_run }));
-        }
         let (net_id, slots) = new_store_options(self.matches)?;
         Some(Mode::Edit(Edit::ImportAsNew {
             csv,
@@ -132,12 +149,20 @@ impl<'x, 'a> Given<'x, 'a> {
         }))
     }
 
-    fn amend(&self) -> Option<Mode<'a>>
-        ensures { AsksForExactly (codes "amend") self.now.matches.now result }
+    fn amend(&self, alloc: Global) -> Result<Option<Mode<'a>>, AllocError>
+        ensures { IfOk result (AsksForExactly (codes "amend") self.now.matches.now) }
     {
-        let (file, csv) = (self.file, self.matches.get_str("csv")?);
-        let dry_run = is_given(self.matches, "dry-run");
-        Some(Mode::Edit(Edit::Amend { file, csv, dry_run }))
+        let Some(csv) = self.matches.get_str("csv") else {
+            return Ok(None);
+        };
+        let records = record_folders(alloc, self.matches)?;
+        let (file, dry_run) = (self.file, is_given(self.matches, "dry-run"));
+        Ok(Some(Mode::Edit(Edit::Amend {
+            file,
+            csv,
+            records,
+            dry_run,
+        })))
     }
 
     fn retire(&self, alloc: Global) -> Result<Option<Mode<'a>>, AllocError>
@@ -147,24 +172,31 @@ impl<'x, 'a> Given<'x, 'a> {
         let Some(texts) = self.matches.get_raw("deveui") else {
             return Ok(None);
         };
+        let records = record_folders(alloc, self.matches)?;
         match euis_of(alloc, texts)? {
             Some(dev_euis) => Ok(Some(Mode::Edit(Edit::Retire {
                 file: self.file,
                 dev_euis,
+                records,
                 dry_run,
             }))),
             None => Ok(None),
         }
     }
 
-    fn grow(&self) -> Option<Mode<'a>>
-        ensures { AsksForExactly (codes "grow") self.now.matches.now result }
+    fn grow(&self, alloc: Global) -> Result<Option<Mode<'a>>, AllocError>
+        ensures { IfOk result (AsksForExactly (codes "grow") self.now.matches.now) }
     {
-        Some(Mode::Edit(Edit::Grow {
+        let Some(slots) = number_given(self.matches, "slots") else {
+            return Ok(None);
+        };
+        let records = record_folders(alloc, self.matches)?;
+        Ok(Some(Mode::Edit(Edit::Grow {
             file: self.file,
-            slots: number_given(self.matches, "slots")?,
+            slots,
+            records,
             dry_run: is_given(self.matches, "dry-run"),
-        }))
+        })))
     }
 }
 
@@ -205,6 +237,23 @@ fn is_given(matches: &ArgMatches<'_>, id: &str) -> bool
     ensures { IsFlagOf id.now (rows_of (found_of matches.now)) result }
 {
     matches.get_flag(id)
+}
+
+// The folders of `--record`, of which there may be none.
+fn record_folders<'a>(
+    alloc: Global,
+    matches: &ArgMatches<'a>,
+) -> Result<Vec<&'a str>, AllocError>
+    ensures { IfOk result
+        (λ folders. AreRecords (rows_of (found_of matches.now)) folders.items) }
+{
+    let mut folders = Vec::new(alloc);
+    if let Some(texts) = matches.get_raw("record") {
+        for text in texts {
+            folders.push(*text)?;
+        }
+    }
+    Ok(folders)
 }
 
 // The EUIs of texts; `None` if one is no EUI.

@@ -6,7 +6,8 @@ ghost use Rattle.command_words.specs.CommandLine.{HasLine, IsCommand, amend_line
 ghost use Rattle.command_words.specs.CommandLine.{devices_line, reload_line};
 ghost use Rattle.command_words.specs.CommandLine.{export_line, flag_option, format_line, grow_line};
 ghost use Rattle.command_words.specs.CommandLine.{import_line, left_out, list_line, lnsd_line};
-ghost use Rattle.command_words.specs.CommandLine.{option, or_else, range_option, restore_line};
+ghost use Rattle.command_words.specs.CommandLine.{option, or_else, range_option, records_option};
+ghost use Rattle.command_words.specs.CommandLine.{restore_line};
 ghost use Rattle.command_words.specs.CommandLine.{retire_line, run_line, serve_line, serving_line};
 ghost use Rattle.command_words.specs.CommandLine.{slots_option, status_line, stop_line, top_line};
 ghost use Rattle.command_words.specs.CommandLine.{watch_line, word, several_words};
@@ -321,7 +322,8 @@ pub(crate) fn import_command<'a>(alloc: Global) -> Result<Command<'a>, AllocErro
     let net_id = option(alloc, "netid", "HEX", help);
     let import = file_command(alloc, "import", about, IMPORT_EXAMPLE, list_file(alloc));
     let import = with_arg(with_arg(import, file), left_out(net_id));
-    with_arg(with_arg(import, left_out(slots(alloc))), dry_run(alloc))
+    let import = with_arg(import, left_out(slots(alloc)));
+    with_arg(with_arg(import, records(alloc)), dry_run(alloc))
 }
 
 fn amend_command<'a>(alloc: Global) -> Result<Command<'a>, AllocError>
@@ -329,7 +331,8 @@ fn amend_command<'a>(alloc: Global) -> Result<Command<'a>, AllocError>
 {
     let about = "Changes devices of a store that isn't being served, as a CSV list says";
     let amend = file_command(alloc, "amend", about, AMEND_EXAMPLE, store_file(alloc));
-    with_arg(with_arg(amend, list_file(alloc)), dry_run(alloc))
+    let amend = with_arg(amend, list_file(alloc));
+    with_arg(with_arg(amend, records(alloc)), dry_run(alloc))
 }
 
 /// The words of `lnsd retire`.
@@ -338,7 +341,8 @@ pub(crate) fn retire_command<'a>(alloc: Global) -> Result<Command<'a>, AllocErro
 {
     let about = "Retires devices of a store that isn't being served: they can't join any more";
     let retire = file_command(alloc, "retire", about, RETIRE_EXAMPLE, store_file(alloc));
-    with_arg(with_arg(retire, dev_euis(alloc)), dry_run(alloc))
+    let retire = with_arg(retire, dev_euis(alloc));
+    with_arg(with_arg(retire, records(alloc)), dry_run(alloc))
 }
 
 fn grow_command<'a>(alloc: Global) -> Result<Command<'a>, AllocError>
@@ -346,7 +350,8 @@ fn grow_command<'a>(alloc: Global) -> Result<Command<'a>, AllocError>
 {
     let about = "Gives a store that isn't being served more slots";
     let grow = file_command(alloc, "grow", about, GROW_EXAMPLE, store_file(alloc));
-    with_arg(with_arg(grow, slots(alloc)), dry_run(alloc))
+    let grow = with_arg(grow, slots(alloc));
+    with_arg(with_arg(grow, records(alloc)), dry_run(alloc))
 }
 
 fn list_file<'a>(alloc: Global) -> Arg<'a>
@@ -371,6 +376,15 @@ fn slots<'a>(alloc: Global) -> Arg<'a>
     let help =
         "The number of slots for devices, from 1 to 4096; `lnsd grow` makes a store with more";
     number_option(alloc, "slots", "N", help, 1, 4096)
+}
+
+fn records<'a>(alloc: Global) -> Arg<'a>
+    ensures rule { rule_of result ≡ records_option }
+    ensures local { result.global ≡ false }
+{
+    let help = "A folder of copies that gets a record of the change, for `lnsd restore`, as the \
+        store's own folder does; may be repeated_option";
+    left_out(option(alloc, "record", "FOLDER", help)).action(ArgAction::Append)
 }
 
 fn dry_run<'a>(alloc: Global) -> Arg<'a>

@@ -70,7 +70,7 @@ pub enum Mode<'a> {
 }
 
 /// What is asked of a store in a file that isn't being served. A dry run says what would be done,
-/// and writes nothing.
+/// and writes nothing. A change is recorded in the folders `records`, beside the store's own.
 #[derive(Drop)]
 pub enum Edit<'a> {
     /// To print the list of its devices, with their AppKeys if `keys`.
@@ -82,6 +82,7 @@ pub enum Edit<'a> {
     Import {
         csv: &'a str,
         file: &'a str,
+        records: Vec<&'a str>,
         dry_run: bool,
     },
     /// To make it, in a new file, with the devices of the list in the file `csv`.
@@ -96,18 +97,21 @@ pub enum Edit<'a> {
     Amend {
         file: &'a str,
         csv: &'a str,
+        records: Vec<&'a str>,
         dry_run: bool,
     },
     /// To retire these devices.
     Retire {
         file: &'a str,
         dev_euis: Vec<Eui>,
+        records: Vec<&'a str>,
         dry_run: bool,
     },
     /// To replace it by a store with its devices and this number of slots.
     Grow {
         file: &'a str,
         slots: Ranged<1, 4096>,
+        records: Vec<&'a str>,
         dry_run: bool,
     },
 }

@@ -44,10 +44,10 @@ fn cut(alloc: Global, old_calls: u64, new_calls: u64) -> Result<(MemDisk, MemDis
             Err((old, new)) => (old, new.close()),
         },
         Err(NotGrown {
-            old,
-            new,
+            old_disk,
+            new_disk,
             refusal: Refusal::DeviceFailed,
-        }) => (old, new),
+        }) => (old_disk, new_disk),
         Err(NotGrown { refusal, .. }) => return Err(refusal),
     };
     old.arm(u64::MAX);

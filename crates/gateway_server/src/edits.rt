@@ -29,9 +29,12 @@ pub(crate) fn edit<R: Files<File = File>>(
             let listed = export_devices(rt, alloc, file, shown(keys))?;
             return Ok(listed.text);
         }
-        Edit::Import { csv, file, dry_run } => {
-            import_devices(rt, alloc, csv, file, DryRun(dry_run))?
-        }
+        Edit::Import {
+            csv,
+            file,
+            ref records,
+            dry_run,
+        } => import_devices(rt, alloc, csv, file, records.as_slice(), DryRun(dry_run))?,
         Edit::ImportAsNew {
             csv,
             file,
@@ -39,19 +42,27 @@ pub(crate) fn edit<R: Files<File = File>>(
             slots,
             dry_run,
         } => import_as_new(rt, alloc, csv, file, net_id, slots, DryRun(dry_run))?,
-        Edit::Amend { file, csv, dry_run } => {
-            amend_devices(rt, alloc, file, csv, DryRun(dry_run))?
-        }
+        Edit::Amend {
+            file,
+            csv,
+            ref records,
+            dry_run,
+        } => amend_devices(rt, alloc, file, csv, records.as_slice(), DryRun(dry_run))?,
         Edit::Retire {
             file,
             ref dev_euis,
+            ref records,
             dry_run,
-        } => retire_devices(rt, alloc, file, dev_euis.as_slice(), DryRun(dry_run))?,
+        } => {
+            let (dev_euis, records) = (dev_euis.as_slice(), records.as_slice());
+            retire_devices(rt, alloc, file, dev_euis, records, DryRun(dry_run))?
+        }
         Edit::Grow {
             file,
             slots,
+            ref records,
             dry_run,
-        } => grow_store(rt, alloc, file, slots, DryRun(dry_run))?,
+        } => grow_store(rt, alloc, file, slots, records.as_slice(), DryRun(dry_run))?,
     };
     counts_text(alloc, &counts)
 }

@@ -8,7 +8,7 @@ use crate::causes::ListenCause;
 use crate::control::{ControlPath, ENDED, bind_control, path_of, real_file, remove};
 use crate::descriptors::hold_descriptors;
 use crate::names_file::NamesFile;
-use crate::stores::{open_store, open_timed};
+use crate::stores::{open_served, open_timed};
 use command_words::Mode;
 use lnsd_life::{
     LifeReport, LinkCount, Monotonic, OnBegun, OpenGate, PlaceCount, ServedLife, serve_links,
@@ -55,7 +55,7 @@ where
     R: Clock + Threads + Wait + Sync,
     ensures { IfOk result (λ life. life.mode ≡ Mode.Serve file.entry listen.entry links) }
 {
-    let store = open_store(rt, alloc, file)?;
+    let store = open_served(rt, alloc, file)?;
     let Listening {
         listener,
         clock,

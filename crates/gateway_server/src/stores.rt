@@ -14,7 +14,7 @@ use std::alloc::Global;
 use std::fs::File;
 use std::rt::{Clock, Files};
 use store::{Store, format_back, open};
-use store_files::{FileFault, create, open_disk, remove_new};
+use store_files::{FileFault, create, open_disk, remove_new, settle};
 
 /// The store of a file, and what is printed about it.
 #[derive(Drop)]
@@ -69,7 +69,7 @@ fn text_of_store<D: Disk>(alloc: Global, store: &Store<D>) -> Result<String, Fau
     Ok(list_text(alloc, store.table().devices(), store.seq())?)
 }
 
-/// Opens the store in a file, and times its disk.
+/// Opens the store in a file, times its disk, and settles its record of changes before.
 pub(crate) fn open_timed<'x, R: Files<File = File> + Clock>(
     rt: &'x R,
     alloc: Global,
@@ -77,11 +77,23 @@ pub(crate) fn open_timed<'x, R: Files<File = File> + Clock>(
     times: &'x DiskTimes,
 ) -> Result<Store<TimedDisk<'x, FileDisk, &'x R>>, Fault> {
     let disk = open_disk(rt, file)?;
+    settle(rt, alloc, file)?;
     Ok(open(alloc, TimedDisk::new(disk, rt, times))?)
 }
 
-/// Opens the store in a file.
-pub(crate) fn open_store<R: Files<File = File>>(
+/// Opens the store in a file that is about to be served, and settles its record of changes before.
+pub(crate) fn open_served<R: Files<File = File>>(
+    rt: &R,
+    alloc: Global,
+    file: &str,
+) -> Result<Store<FileDisk>, Fault> {
+    let disk = open_disk(rt, file)?;
+    settle(rt, alloc, file)?;
+    Ok(open(alloc, disk)?)
+}
+
+// Opens the store in a file.
+fn open_store<R: Files<File = File>>(
     rt: &R,
     alloc: Global,
     file: &str,

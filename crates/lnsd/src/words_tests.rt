@@ -137,6 +137,18 @@ const ROWS: &[(&str, &str)] = &[
         "amend store list.csv true",
     ),
     ("amend store list.csv", "amend store list.csv false"),
+    (
+        "amend store list.csv --record a",
+        "amend store list.csv false a",
+    ),
+    (
+        "retire store 1112131415161718 --record a --record a",
+        "retire store 1 1112131415161718 false a a",
+    ),
+    (
+        "import list.csv store --record a",
+        "import list.csv store false a",
+    ),
     ("amend store", "wrong"),
     ("amend --help", "help"),
     (
@@ -156,6 +168,11 @@ const ROWS: &[(&str, &str)] = &[
         "grow store --slots 1 --dry-run",
         "grow store 1 true",
     ),
+    (
+        "grow store --record a --slots 16 --record b/c",
+        "grow store 16 false a b/c",
+    ),
+    ("grow store --slots 16 --record", "wrong"),
     ("grow store", "wrong"),
     ("grow store --slots 0", "wrong"),
     ("grow store larger --slots 16", "wrong"),
@@ -238,8 +255,14 @@ fn asked_of(alloc: Global, mode: &Mode<'_>) -> Result<String, AllocError> {
 fn edit_of(alloc: Global, edit: &Edit<'_>) -> Result<String, AllocError> {
     match *edit {
         Edit::Export { file, keys } => format!(in alloc; "export {file} {keys}"),
-        Edit::Import { csv, file, dry_run } => {
-            format!(in alloc; "import {csv} {file} {dry_run}")
+        Edit::Import {
+            csv,
+            file,
+            ref records,
+            dry_run,
+        } => {
+            let folders = folders_of(alloc, records.as_slice())?;
+            format!(in alloc; "import {csv} {file} {dry_run}{folders}")
         }
         Edit::ImportAsNew {
             csv,
@@ -251,27 +274,49 @@ fn edit_of(alloc: Global, edit: &Edit<'_>) -> Result<String, AllocError> {
             let (net_id, slots) = (net_id.get(), slots.get());
             format!(in alloc; "import {csv} {file} {net_id} {slots} {dry_run}")
         }
-        Edit::Amend { file, csv, dry_run } => format!(in alloc; "amend {file} {csv} {dry_run}"),
+        Edit::Amend {
+            file,
+            csv,
+            ref records,
+            dry_run,
+        } => {
+            let folders = folders_of(alloc, records.as_slice())?;
+            format!(in alloc; "amend {file} {csv} {dry_run}{folders}")
+        }
         Edit::Retire {
             file,
             ref dev_euis,
+            ref records,
             dry_run,
         } => match dev_euis.as_slice() {
             [.., last] => {
                 let (count, last) = (dev_euis.len(), *last);
-                format!(in alloc; "retire {file} {count} {last} {dry_run}")
+                let folders = folders_of(alloc, records.as_slice())?;
+                format!(in alloc; "retire {file} {count} {last} {dry_run}{folders}")
             }
             [] => String::from_str(alloc, "retire nothing"),
         },
         Edit::Grow {
             file,
             slots,
+            ref records,
             dry_run,
         } => {
             let slots = slots.get();
-            format!(in alloc; "grow {file} {slots} {dry_run}")
+            let folders = folders_of(alloc, records.as_slice())?;
+            format!(in alloc; "grow {file} {slots} {dry_run}{folders}")
         }
     }
+}
+
+// The folders of records, each after a space.
+fn folders_of(alloc: Global, records: &[&str]) -> Result<String, AllocError> {
+    let mut text = String::new(alloc);
+    for folder in records {
+        text.push_str(" ")?;
+        text.push_str(folder)?;
+    }
+    Ok(text)
 }
 
 #[test]

@@ -59,4 +59,4 @@ HoldsOldOrNone old disk =
 abbrev pub IsNotGrown : {D E : Type 0} → (disk : Ghosts E) → D → E → TableState → ℕ
     → NotGrown D E → Type 0
 IsNotGrown disk old new t seq e =
-    (e.old ≡ old) × IsEstablished disk new t seq (Err (e.new, e.refusal))
+    (e.old_disk ≡ old) × IsEstablished disk new t seq (Err (e.new_disk, e.refusal))

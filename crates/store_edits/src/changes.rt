@@ -51,8 +51,8 @@ pub fn store_with_changes<D: Disk + Drop>(
 /// Why a larger store wasn't made, with both disks. The old one is as it was.
 #[derive(Drop)]
 pub struct NotGrown<D, E> {
-    pub old: D,
-    pub new: E,
+    pub old_disk: D,
+    pub new_disk: E,
     pub refusal: Refusal,
 }
 
@@ -60,8 +60,8 @@ pub struct NotGrown<D, E> {
 /// and both are whole: exactly one may be served from now on. So this value must be spent: the old
 /// one is closed, or the new one is given up.
 pub struct Grown<D: Disk, E: Disk> {
-    old: Store<D>,
-    new: Store<E>,
+    smaller: Store<D>,
+    larger: Store<E>,
 }
 
 /// Makes a store with this table, and the old one's number, on another disk. Nothing is written to
@@ -73,18 +73,21 @@ pub fn grow_into<D: Disk + Drop, E: Disk + Drop>(
     disk: E,
 ) -> Result<Grown<D, E>, NotGrown<D, E>>
     ensures made { IfOk result (λ grown. IsMadeOf table (store_state D.state old)
-        (store_state E.state grown.new)) }
-    ensures settled { E.honest → IfOk result (λ grown. IsSettled (store_state E.state grown.new)) }
-    ensures same { IfOk result (λ grown. grown.old ≡ old) }
+        (store_state E.state grown.larger)) }
+    ensures settled { E.honest → IfOk result (λ grown. IsSettled (store_state E.state grown.larger)) }
+    ensures same { IfOk result (λ grown. grown.smaller ≡ old) }
     ensures refused { IfErr result (IsNotGrown E.Disk (disk_of old) disk table
         (store_state D.state old).seq) }
 {
     let seq = old.seq();
     match establish_back(alloc, disk, table, seq) {
-        Ok(new) => Ok(Grown { old, new }),
-        Err((new, refusal)) => Err(NotGrown {
-            old: old.close(),
-            new,
+        Ok(larger) => Ok(Grown {
+            smaller: old,
+            larger,
+        }),
+        Err((new_disk, refusal)) => Err(NotGrown {
+            old_disk: old.close(),
+            new_disk,
             refusal,
         }),
     }
@@ -95,26 +98,26 @@ impl<D: Disk + Drop, E: Disk + Drop> Grown<D, E> {
     /// holds the old store, or none. If a call of its disk fails, it may still be open.
     pub fn close_old(self) -> Result<(D, Store<E>), (D, Store<E>)>
         ensures closed { D.honest → IfOk result (λ r. IsShut (D.state r.0)) }
-        ensures images { D.honest → IsSettled (store_state D.state self.old)
-            → IfErr result (λ r. HoldsOldOrNone (store_state D.state self.old) (D.state r.0)) }
+        ensures images { D.honest → IsSettled (store_state D.state self.smaller)
+            → IfErr result (λ r. HoldsOldOrNone (store_state D.state self.smaller) (D.state r.0)) }
         ensures cause { MatchResult result
-            (λ r. D.failures r.0 ≡ D.failures (disk_of self.old))
-            (λ r. D.failures r.0 ≡ D.failures (disk_of self.old) + 1) }
-        ensures same { MatchResult result (λ r. r.1 ≡ self.new) (λ r. r.1 ≡ self.new) }
+            (λ r. D.failures r.0 ≡ D.failures (disk_of self.smaller))
+            (λ r. D.failures r.0 ≡ D.failures (disk_of self.smaller) + 1) }
+        ensures same { MatchResult result (λ r. r.1 ≡ self.larger) (λ r. r.1 ≡ self.larger) }
     {
-        let Grown { old, new } = self;
-        match old.shut() {
-            Ok(old) => Ok((old, new)),
-            Err((old, _)) => Err((old, new)),
+        let Grown { smaller, larger } = self;
+        match smaller.shut() {
+            Ok(disk) => Ok((disk, larger)),
+            Err((disk, _)) => Err((disk, larger)),
         }
     }
 
     /// Gives the new store up. Nothing is written to either disk.
     pub fn give_up(self) -> (D, E)
-        ensures old { result.0 ≡ disk_of self.old }
-        ensures new { result.1 ≡ disk_of self.new }
+        ensures old { result.0 ≡ disk_of self.smaller }
+        ensures new { result.1 ≡ disk_of self.larger }
     {
-        let Grown { old, new } = self;
-        (old.close(), new.close())
+        let Grown { smaller, larger } = self;
+        (smaller.close(), larger.close())
     }
 }

@@ -5,6 +5,7 @@ ghost use Rattle.store_edits.specs.Counts.{counts_after, ongoing_in};
 
 use crate::EditFault;
 use crate::changes::{NotChanged, NotGrown, grow_into, store_with_changes};
+use crate::recording::{planned_changes, planned_growth};
 use crate::reading::{NEXT_LINE, list_fault, random_key, read_changes};
 use device_changes::{
     Change, FaultyRow, GrowRefused, Refused, Retirement, changed_table, grown_table,
@@ -20,8 +21,8 @@ use std::fs::File;
 use std::rt::Files;
 use store::{Store, open};
 use store_files::{
-    FileFault, NewFile, NotPlaced, Place, ReadOnly, create, establish_new, open_copy, open_disk,
-    remove_new, write_identity,
+    ChangeRecords, FileFault, LineState, NewFile, NotPlaced, Place, ReadOnly, create,
+    establish_new, open_copy, open_disk, remove_new, write_identity,
 };
 
 /// Whether a command only finds out what it would do. Then it writes nothing.
@@ -67,16 +68,17 @@ pub fn export_devices<R: Files<File = File>>(
 
 /// Brings the devices of a list into the store in a file, with their last nonces and without
 /// sessions: all of them, or none if a line is faulty. A crash at any moment leaves the store as it
-/// was, or with all of them.
+/// was, or with all of them. It is recorded in these folders, too.
 pub fn import_devices<R: Files<File = File>>(
     rt: &R,
     alloc: Global,
     csv: &str,
     file: &str,
+    folders: &[&str],
     dry_run: DryRun,
 ) -> Result<EditCounts, EditFault> {
     let list = read_changes(rt, alloc, csv, ListUse::Import)?;
-    change_by_list(rt, alloc, csv, &list, file, dry_run)
+    change_by_list(rt, alloc, csv, &list, &Edited { file, folders }, dry_run)
 }
 
 /// Makes a store of the devices of a list in a new file, as [`import_devices`] brings them.
@@ -103,29 +105,33 @@ pub fn import_as_new<R: Files<File = File>>(
 }
 
 /// Changes devices of the store in a file by a list: all lines, or none if one is faulty. A crash
-/// at any moment leaves the store as it was, or with all changes.
+/// at any moment leaves the store as it was, or with all changes. It is recorded in these folders,
+/// too.
 pub fn amend_devices<R: Files<File = File>>(
     rt: &R,
     alloc: Global,
     file: &str,
     csv: &str,
+    folders: &[&str],
     dry_run: DryRun,
 ) -> Result<EditCounts, EditFault> {
     let list = read_changes(rt, alloc, csv, ListUse::Amend)?;
-    change_by_list(rt, alloc, csv, &list, file, dry_run)
+    change_by_list(rt, alloc, csv, &list, &Edited { file, folders }, dry_run)
 }
 
 /// Retires devices of the store in a file: all of them, or none if one is unknown or named twice.
-/// Each gets a random AppKey, so it can't join, and its frames are refused.
+/// Each gets a random AppKey, so it can't join, and its frames are refused. It is recorded in these
+/// folders, too.
 pub fn retire_devices<R: Files<File = File>>(
     rt: &R,
     alloc: Global,
     file: &str,
     dev_euis: &[Eui],
+    folders: &[&str],
     dry_run: DryRun,
 ) -> Result<EditCounts, EditFault> {
     let rows = retirements(rt, alloc, dev_euis)?;
-    match change_file(rt, alloc, file, rows.as_slice(), dry_run) {
+    match change_file(rt, alloc, &Edited { file, folders }, rows.as_slice(), dry_run) {
         Ok(counts) => Ok(counts),
         Err(NotDone::Rows(faulty)) => Err(not_retired(alloc, dev_euis, faulty.as_slice())),
         Err(NotDone::Other(fault)) => Err(fault),
@@ -154,12 +160,14 @@ fn retirements<R: Files<File = File>>(
 /// Replaces the store in a file by one with more slots, and with the same devices, sessions, queues
 /// and number of the last decision. The larger store is made in a file beside it, durably, and gets
 /// an identity; then it is renamed to the store's name, durably; then the old one is closed. A crash
-/// at any moment leaves the old store or the larger one under the store's name.
+/// at any moment leaves the old store or the larger one under the store's name. It is recorded in
+/// these folders, too.
 pub fn grow_store<R: Files<File = File>>(
     rt: &R,
     alloc: Global,
     file: &str,
     slots: Slots,
+    folders: &[&str],
     dry_run: DryRun,
 ) -> Result<EditCounts, EditFault> {
     if dry_run.0 {
@@ -167,20 +175,38 @@ pub fn grow_store<R: Files<File = File>>(
         let table = larger_table(alloc, store.table(), slots)?;
         return Ok(counts_of(0, store.table(), &table));
     }
-    let store = open_for_edit(rt, alloc, file)?;
+    let (store, mut records) = open_for_edit(rt, alloc, &Edited { file, folders })?;
     let table = larger_table(alloc, store.table(), slots)?;
     let counts = counts_of(0, store.table(), &table);
+    let planned = planned_growth(alloc, slots)?;
+    records.begin(rt, alloc, file, store.seq(), planned.as_slice())?;
+    replace_by_larger(rt, alloc, file, store, table)?;
+    records.end(rt, alloc, LineState::Done)?;
+    Ok(counts)
+}
+
+// Replaces the store in a file, which is open, by one with this table.
+fn replace_by_larger<R: Files<File = File>>(
+    rt: &R,
+    alloc: Global,
+    file: &str,
+    store: Store<FileDisk>,
+    table: Table,
+) -> Result<(), EditFault> {
+    let slots = table.slots();
     let place = Place::of(rt, alloc, file)?;
     let (disk, made) = create(rt, place.beside(), slots)?;
     let grown = match grow_into(alloc, store, table, disk) {
         Ok(grown) => grown,
-        Err(NotGrown { new, refusal, .. }) => {
-            return Err(remove_new(rt, made, new, FileFault::Refused(refusal)).into());
+        Err(NotGrown {
+            new_disk, refusal, ..
+        }) => {
+            return Err(remove_new(rt, made, new_disk, FileFault::Refused(refusal)).into());
         }
     };
     match put_in_place(rt, alloc, file, &place, &made) {
         Ok(()) => match grown.close_old() {
-            Ok(_) => Ok(counts),
+            Ok(_) => Ok(()),
             Err(_) => Err(EditFault::NotClosed),
         },
         Err(why) => {
@@ -206,11 +232,24 @@ fn put_in_place<R: Files<File = File>>(
     place.take(rt, made)
 }
 
+// The file of a store that is changed, and the folders that get a record of it, beside its own.
+#[derive(Clone, Copy)]
+struct Edited<'a> {
+    file: &'a str,
+    folders: &'a [&'a str],
+}
+
 // Why nothing was changed.
 #[derive(Drop)]
 enum NotDone {
     Rows(Vec<FaultyRow>),
     Other(EditFault),
+}
+
+impl From<FileFault> for NotDone {
+    fn from(fault: FileFault) -> Self {
+        NotDone::Other(EditFault::File(fault))
+    }
 }
 
 impl From<EditFault> for NotDone {
@@ -234,10 +273,10 @@ fn change_by_list<R: Files<File = File>>(
     alloc: Global,
     csv: &str,
     list: &DeviceList,
-    file: &str,
+    edited: &Edited<'_>,
     dry_run: DryRun,
 ) -> Result<EditCounts, EditFault> {
-    match change_file(rt, alloc, file, list.changes.as_slice(), dry_run) {
+    match change_file(rt, alloc, edited, list.changes.as_slice(), dry_run) {
         Ok(counts) => Ok(counts),
         Err(NotDone::Rows(faulty)) => Err(rows_fault(alloc, csv, list, faulty.as_slice())),
         Err(NotDone::Other(fault)) => Err(fault),
@@ -248,17 +287,25 @@ fn change_by_list<R: Files<File = File>>(
 fn change_file<R: Files<File = File>>(
     rt: &R,
     alloc: Global,
-    file: &str,
+    edited: &Edited<'_>,
     rows: &[Change],
     dry_run: DryRun,
 ) -> Result<EditCounts, NotDone> {
+    let file = edited.file;
     if dry_run.0 {
         return try_changes(rt, alloc, file, rows);
     }
-    let store = open_for_edit(rt, alloc, file)?;
+    let (store, mut records) = open_for_edit(rt, alloc, edited)?;
     let before = Ongoing::of(store.table());
+    // what is refused isn't recorded
+    drop(changed_table(alloc, store.table(), rows)?);
+    let planned = planned_changes(alloc, store.table(), rows)?;
+    records.begin(rt, alloc, file, store.seq(), planned.as_slice())?;
     match store_with_changes(alloc, store, rows) {
-        Ok(store) => Ok(before.counts(rows.len(), store.table())),
+        Ok(store) => {
+            records.end(rt, alloc, LineState::Done)?;
+            Ok(before.counts(rows.len(), store.table()))
+        }
         Err(NotChanged::Rows(_, refused)) => Err(refused.into()),
         Err(NotChanged::Store(_, refusal)) => Err(NotDone::Other(refusal.into())),
     }
@@ -305,13 +352,15 @@ fn open_for_reading<R: Files<File = File>>(
     Ok(open_copy(rt, alloc, file)?)
 }
 
-// The store in a file.
+// The store in a file, and its records of changes, which were settled before the store was opened.
 fn open_for_edit<R: Files<File = File>>(
     rt: &R,
     alloc: Global,
-    file: &str,
-) -> Result<Store<FileDisk>, EditFault> {
-    Ok(open(alloc, open_disk(rt, file)?)?)
+    edited: &Edited<'_>,
+) -> Result<(Store<FileDisk>, ChangeRecords), EditFault> {
+    let disk = open_disk(rt, edited.file)?;
+    let records = ChangeRecords::of(rt, alloc, edited.file, edited.folders)?;
+    Ok((open(alloc, disk)?, records))
 }
 
 // What a table has that a change may end.

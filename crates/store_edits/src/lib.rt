@@ -6,6 +6,7 @@ mod changes;
 mod editing;
 mod fault;
 mod reading;
+mod recording;
 
 pub use changes::{Grown, NotChanged, NotGrown, grow_into, store_with_changes};
 pub use device_lists::AppKeys;

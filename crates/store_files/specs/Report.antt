@@ -3,11 +3,15 @@ use Rattle.std.specs.Prelude.{◌≡◌, ℕ, ◌-◌, ◌^◌, min, List, [], �
 use Rattle.std.specs.Prelude.{None, unwrap_or}
 use Rattle.std.specs.Fmt.{decimal}
 use Rattle.lw_types.specs.Hex.{eui_text}
+use Rattle.device_changes.specs.Faults.{faults_of}
+use Rattle.device_changes.specs.Table.{changed_table}
+use Rattle.device_changes.specs.declared.change.Change.{Change}
 use Rattle.devices.specs.declared.device.Device.{Device}
 use Rattle.devices.specs.declared.mark.SessionName.{SessionName}
 use Rattle.lw_types.specs.Words.{line_of}
 use Rattle.sessions.specs.Restored.{raised_by_all, restored_table, spent_device}
 use Rattle.sessions.specs.Table.{TableState}
+use Rattle.store_files.specs.Draws.{AreDraws}
 
 -- how many joins can still be granted: the JoinNonces above the last one (TS001-1.0.4 §6.2.6: 24
 -- bits)
@@ -40,11 +44,13 @@ head_text recorded devices =
 abbrev pub restored_text : ℕ → List Device → List ℕ
 restored_text recorded devices = head_text recorded devices ++ above_lines devices
 
--- A store has the table of a copy, in which the sessions on record count as granted, and then N
--- more for each device; and this is printed about it.
+-- A store has the table of a copy after draws, in which the sessions on record count as granted, and
+-- then N more for each device; and this is printed about it. So only JoinNonces are raised, sessions
+-- ended, AppKeys drawn, and devices brought in that the copy lacks.
 abbrev pub IsRestoredAs : ℕ → TableState → List ℕ → Type 0
 IsRestoredAs since t text =
-    (copy : TableState) × (sessions : List SessionName) × (recorded : ℕ)
-    × (spent_device since (raised_by_all sessions copy) ≡ None)
-    × (t ≡ restored_table since (raised_by_all sessions copy))
-    × (text ≡ restored_text recorded t.devices)
+    (copy : TableState) × (draws : List Change) × (sessions : List SessionName) × (recorded : ℕ)
+    × (undone : List ℕ) × AreDraws draws × (faults_of copy draws ≡ [])
+    × (spent_device since (raised_by_all sessions (changed_table draws copy)) ≡ None)
+    × (t ≡ restored_table since (raised_by_all sessions (changed_table draws copy)))
+    × (text ≡ restored_text recorded t.devices ++ undone)

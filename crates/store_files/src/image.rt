@@ -48,8 +48,8 @@ pub fn image_of<S: Source>(alloc: Global, source: &mut S) -> Result<Option<Vec<u
     Ok(if is_whole { Some(image) } else { None })
 }
 
-// The superblock of a disk that has the length for it, and its bytes.
-fn superblock_of<S: Source>(source: &mut S) -> Result<(Superblock, [u8; Superblock::LEN]), Refusal>
+/// The superblock of a disk that has the length for it, and its bytes.
+pub(crate) fn superblock_of<S: Source>(source: &mut S) -> Result<(Superblock, [u8; Superblock::LEN]), Refusal>
     ensures size { IfOk result
         (λ r. length (S.content source.old) ≡ disk_len r.0.slots) }
     ensures front { S.still → IfOk result (λ r. r.1 ≡ take 32 (S.content source.old)) }
@@ -66,6 +66,20 @@ fn superblock_of<S: Source>(source: &mut S) -> Result<(Superblock, [u8; Superblo
         return Err(Refusal::WrongSize);
     }
     Ok((superblock, front))
+}
+
+/// The generation of the area that begins at this place. `None` if its gate is closed.
+pub(crate) fn generation_at<S: Source>(source: &mut S, start: usize) -> Result<Option<u64>, Refusal>
+    requires { start + GENERATION_AT + GENERATION ≤ length (S.content source.old) }
+    ensures same { S.still → S.content source.new ≡ S.content source.old }
+    ensures same_length { length (S.content source.new) ≡ length (S.content source.old) }
+{
+    let mut gate = [0; 1];
+    read_piece(source, start as u64, &mut gate)?;
+    let mut generation = [0; GENERATION];
+    read_piece(source, (start + GENERATION_AT) as u64, &mut generation)?;
+    let is_open = gate[0] == OPEN;
+    Ok(is_open.then_some(u64::from_be_bytes(generation)))
 }
 
 // Reads the area that follows the image, up to its end. Returns whether its generation was the same

@@ -3,8 +3,11 @@
 #![tactic(auto)]
 
 mod cause;
+mod change_line;
+mod change_record;
 mod copying;
 mod fault;
+mod folder;
 mod identity;
 mod image;
 mod new_file;
@@ -17,8 +20,12 @@ mod replacing;
 mod report;
 mod restoring;
 mod source;
+mod standing;
+mod undone;
 
 pub use cause::FileCause;
+pub use change_line::{ChangeLine, Deed, LineState, change_in_line};
+pub use change_record::{CHANGES_NAME, ChangeRecords, PlannedChange, settle};
 pub use copying::{CopiedStore, copied, copy_store};
 pub use fault::FileFault;
 pub use identity::write_identity;
@@ -31,3 +38,4 @@ pub use read_only::ReadOnly;
 pub use record::{RECORD_NAME, session_in_line};
 pub use restoring::{RestoreRequest, RestoredStore, restore};
 pub use source::{Source, StoreFile};
+pub use standing::Standing;

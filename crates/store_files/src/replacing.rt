@@ -4,15 +4,16 @@ use std::fs;
 use std::fs::{File, OpenOptions, Permissions};
 use std::io;
 use std::io::{ErrorKind, Write};
-use std::os::unix::fs::{OpenOptionsExt, PermissionsExt};
+use std::os::unix::fs::{MetadataExt, OpenOptionsExt, PermissionsExt, chown};
 use std::path::Path;
 use std::rt::Files;
 
 /// What follows the name of a file while a new one is written that will replace it.
 pub(crate) const UNFINISHED: &str = ".new";
 
-/// Replaces the file of this path by one with this text and mode. Its folder is given, too. The new
-/// file is durable when this succeeds. A crash leaves the old file or the new one, and maybe an
+/// Replaces the file of this path by one with this text and mode, and with the owner of its folder,
+/// which is given, too. So a server may read what root wrote. The new file is durable when this
+/// succeeds. A crash leaves the old file or the new one, and maybe an
 /// unfinished one beside it, which the next call removes.
 pub(crate) fn replace<R: Files<File = File>>(
     rt: &R,
@@ -31,8 +32,10 @@ pub(crate) fn replace<R: Files<File = File>>(
         .create_new(true)
         .mode(mode)
         .open(rt, unfinished.as_str())?;
-    // a stricter mode than this one is no fault
+    // a stricter mode or another owner than these is no fault
     let _ = file.set_permissions(Permissions::from_mode(mode));
+    let owner = folder.metadata()?;
+    let _ = chown(rt, unfinished.as_str(), Some(owner.uid()), Some(owner.gid()));
     file.write_all(text.as_bytes())?;
     file.sync_all()?;
     rt.rename(unfinished.as_str(), path)?;

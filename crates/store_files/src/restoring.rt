@@ -1,22 +1,29 @@
 // Restoring an older copy of a lost store.
-ghost use Rattle.std.specs.Prelude.{◌≡◌, ◌⊎◌, ℕ, IfOk, List, MatchResult, None, Some, option_map};
+ghost use Rattle.std.specs.Prelude.{◌≡◌, ◌++◌, [], ℕ, IfOk, MatchResult, None, Some, option_map};
 ghost use Rattle.std.specs.Prelude.{string_bytes};
-ghost use Rattle.devices.specs.declared.mark.SessionName.{SessionName};
+ghost use Rattle.device_changes.specs.Faults.{faults_of};
+ghost use Rattle.device_changes.specs.Table.{changed_table};
 ghost use Rattle.sessions.specs.Restored.{raised_by_all, restored_table, spent_device};
-ghost use Rattle.sessions.specs.Table.{TableState};
 ghost use Rattle.store_files.specs.Report.{IsRestoredAs, restored_text};
 
 use crate::FileFault;
+use crate::change_line::{ChangeLine, LineState};
+use crate::change_record::{CHANGES_NAME, change_lines_in, merged, with_lines};
+use crate::folder::{LineFile, LockedFolder, lock_all, no_memory};
 use crate::new_file::{create, establish_new, remove_new};
 use crate::opening::open_copy;
-use crate::record::{NonceFile, Record, are_beside, is_record_name};
+use crate::record::{RECORD_NAME, read_sessions, with_devices};
+use crate::replacing::{UNFINISHED, folder_of};
 use crate::report::report_of;
+use crate::undone::{Restoring, undone};
+use device_changes::{Change, Refused, changed_table};
 use devices::{Device, GrantsSince, SessionName};
 use disk::FileDisk;
-use lw_types::Refusal;
+use lw_types::{NetId, Refusal};
 use sessions::Table;
-use std::alloc::Global;
+use std::alloc::{AllocError, Global};
 use std::fs::File;
+use std::path::Path;
 use std::rt::Files;
 use store::Store;
 
@@ -42,10 +49,13 @@ pub struct RestoredStore {
 
 /// Restores an older copy of a lost store to a new file. The JoinNonces of each device continue
 /// `since` above the highest of these: the copy's last one, those of the records of earlier
-/// restores in the folders of both files, and those of the file `above`. No device has a session.
-/// Before the new store exists, both records durably say from where the devices continue. The copy
-/// doesn't change. If this fails, the new file doesn't exist, and the records are unchanged or have
-/// these lines already, which only raises the JoinNonces of the next restore.
+/// restores in the folders of both files, those of the file `above`, and those of the records of
+/// changes in both folders. No device has a session. By these records, devices that were retired or
+/// got another AppKey since the copy get a random AppKey, and retired ones that the copy lacks come
+/// in. Before the new store exists, both records of restores durably say from where the devices
+/// continue, and what a record of changes has as begun counts as unknown. The copy doesn't change.
+/// If this fails, the new file doesn't exist, and the records are unchanged or have these lines
+/// already, which only raises the JoinNonces of the next restore.
 pub fn restore<R: Files<File = File>>(
     rt: &R,
     alloc: Global,
@@ -60,17 +70,36 @@ pub fn restore<R: Files<File = File>>(
         }
     }
     let copy = open_copy(rt, alloc, request.old)?;
-    let records = read_records(rt, alloc, request)?;
+    let mut records = Records::of(rt, alloc, request)?;
     let seq = copy.seq();
-    let (table, text) = table_since(alloc, copy.table(), &records.sessions, request.since)?;
+    let restoring = Restoring {
+        copy: copy.table(),
+        number: seq,
+        is_restored: records.is_restored,
+        into: request.new,
+        since: request.since,
+    };
+    let undone = undone(rt, alloc, &restoring, records.recorded.as_slice())?;
+    records.sessions.extend_from_slice(undone.sessions.as_slice())?;
+    let sessions = records.sessions.as_slice();
+    let draws = undone.draws.as_slice();
+    let (table, head) = table_since(alloc, copy.table(), draws, sessions, request.since)?;
+    let text = both_texts(head, undone.text.as_str())?;
     let (disk, made) = create(rt, request.new, table.slots())?;
-    if let Err(fault) = records.add(rt, alloc, table.devices()) {
+    if let Err(fault) = records.add(rt, alloc, table.devices(), table.net_id()) {
         return Err(remove_new(rt, made, disk, fault));
     }
     match establish_new(rt, alloc, made, disk, table, seq) {
         Ok(store) => Ok(RestoredStore { store, text }),
         Err(fault) => Err(fault),
     }
+}
+
+// Whether a file has a name of records. A record would replace a store or a copy of this name.
+fn is_record_name(file: &str) -> bool {
+    let name = Path::new(file).file_name().unwrap_or("");
+    let name = name.strip_suffix(UNFINISHED).unwrap_or(name);
+    name == RECORD_NAME || name == CHANGES_NAME
 }
 
 // This file has the name of a record.
@@ -81,81 +110,155 @@ fn record_fault(alloc: Global, file: &str) -> FileFault {
     }
 }
 
-// What is on record of earlier restores.
+// The records in a folder.
+#[derive(Drop)]
+struct RecordFolder {
+    folder: LockedFolder,
+    restored: LineFile,
+    recorded: Vec<ChangeLine>,
+}
+
+// What is on record of earlier restores, and of changes.
 #[derive(Drop)]
 struct Records {
-    of_old: Record,
-    // `None` if both files are in one folder
-    of_new: Option<Record>,
+    places: Vec<RecordFolder>,
     sessions: Vec<SessionName>,
+    is_restored: bool,
+    recorded: Vec<ChangeLine>,
 }
 
 impl Records {
-    // Adds to the records from where the devices continue.
+    // The records in the folders of both files, and the sessions that they and the file `above`
+    // name.
+    fn of<R: Files<File = File>>(
+        rt: &R,
+        alloc: Global,
+        request: &RestoreRequest<'_>,
+    ) -> Result<Self, FileFault> {
+        let names = [folder_of(request.old), folder_of(request.new)];
+        let mut folders: Vec<RecordFolder> = Vec::new(alloc);
+        let mut sessions = Vec::new(alloc);
+        let mut changes: Vec<ChangeLine> = Vec::new(alloc);
+        for folder in lock_all(rt, alloc, &names, RECORD_NAME)? {
+            let found = RecordFolder::of(rt, alloc, folder)?;
+            read_sessions(alloc, &found.restored, &mut sessions)?;
+            changes = merged(alloc, changes.as_slice(), found.recorded.as_slice())?;
+            folders.push(found).map_err(no_memory)?;
+        }
+        let is_restored = !sessions.is_empty();
+        if let Some(above) = request.above {
+            read_sessions(alloc, &LineFile::open(rt, alloc, above)?, &mut sessions)?;
+        }
+        Ok(Records {
+            places: folders,
+            sessions,
+            is_restored,
+            recorded: changes,
+        })
+    }
+
+    // Adds to the records from where the devices continue, and that nobody knows what became of
+    // changes that were begun.
     fn add<R: Files<File = File>>(
         self,
         rt: &R,
         alloc: Global,
         devices: &[Device],
+        net_id: NetId,
     ) -> Result<(), FileFault> {
-        let Records {
-            of_old,
-            of_new,
-            sessions: _,
-        } = self;
-        if let Some(of_new) = of_new {
-            of_new.add(rt, alloc, devices)?;
+        for found in self.places {
+            found.add(rt, alloc, devices, net_id)?;
         }
-        of_old.add(rt, alloc, devices)
+        Ok(())
     }
 }
 
-// The records in the folders of both files, and the sessions that they and the file `above` name.
-fn read_records<R: Files<File = File>>(
-    rt: &R,
-    alloc: Global,
-    request: &RestoreRequest<'_>,
-) -> Result<Records, FileFault> {
-    let mut sessions = Vec::new(alloc);
-    let of_old = Record::in_folder_of(rt, alloc, request.old)?;
-    of_old.read_into(alloc, &mut sessions)?;
-    let of_new = if are_beside(rt, request.old, request.new) {
-        None
-    } else {
-        Some(Record::in_folder_of(rt, alloc, request.new)?)
-    };
-    if let Some(of_new) = &of_new {
-        of_new.read_into(alloc, &mut sessions)?;
+impl RecordFolder {
+    fn of<R: Files<File = File>>(
+        rt: &R,
+        alloc: Global,
+        folder: LockedFolder,
+    ) -> Result<Self, FileFault> {
+        let restored = folder.read(rt, alloc, RECORD_NAME)?;
+        let changes = change_lines_in(alloc, &folder.read(rt, alloc, CHANGES_NAME)?)?;
+        Ok(RecordFolder {
+            folder,
+            restored,
+            recorded: changes,
+        })
     }
-    if let Some(above) = request.above {
-        NonceFile::open(rt, alloc, above)?.read_into(alloc, &mut sessions)?;
+
+    fn add<R: Files<File = File>>(
+        self,
+        rt: &R,
+        alloc: Global,
+        devices: &[Device],
+        net_id: NetId,
+    ) -> Result<(), FileFault> {
+        let RecordFolder {
+            folder,
+            restored,
+            recorded,
+        } = self;
+        folder.write(rt, alloc, with_devices(alloc, restored, devices)?)?;
+        let is_open = |line: &ChangeLine| line.state == LineState::Open && line.net_id == net_id;
+        if !recorded.iter().any(is_open) {
+            return Ok(());
+        }
+        let mut changes = recorded;
+        for line in changes.iter_mut() {
+            if line.state == LineState::Open && line.net_id == net_id {
+                line.state = LineState::Unknown;
+            }
+        }
+        let file = LineFile::named(alloc, &folder, CHANGES_NAME)?;
+        folder.write(rt, alloc, with_lines(alloc, file, changes.as_slice())?)
     }
-    Ok(Records {
-        of_old,
-        of_new,
-        sessions,
-    })
 }
 
-// The table of a copy as it is restored, and what is printed about it.
+// A text, and another one after it.
+fn both_texts(text: String, more: &str) -> Result<String, AllocError>
+    ensures { IfOk result (λ both. string_bytes both ≡ string_bytes text ++ more.now) }
+{
+    let mut both = text;
+    both.push_str(more)?;
+    Ok(both)
+}
+
+// The table of a copy as it is restored after these draws, and what is printed about it.
 fn table_since(
     alloc: Global,
     copy: &Table,
+    draws: &[Change],
     sessions: &[SessionName],
     since: GrantsSince,
 ) -> Result<(Table, String), FileFault>
     ensures { IfOk result
-        (λ made. (spent_device since (raised_by_all sessions.now copy.now) ≡ None)
-        × (made.0 ≡ restored_table since (raised_by_all sessions.now copy.now))
+        (λ made. (faults_of copy.now draws.now ≡ [])
+        × (spent_device since (raised_by_all sessions.now (changed_table draws.now copy.now)) ≡ None)
+        × (made.0 ≡ restored_table since
+        (raised_by_all sessions.now (changed_table draws.now copy.now)))
         × ((recorded : ℕ) × (string_bytes made.1 ≡ restored_text recorded made.0.devices))) }
 {
-    let mut raised = copy.copy()?;
+    let mut raised = drawn(alloc, copy, draws)?;
     raised.raise_all(sessions);
     let recorded = changed(copy.devices(), raised.devices());
     let table = restored(raised, since)?;
     match report_of(alloc, recorded, table.devices()) {
         Ok(text) => Ok((table, text)),
         Err(_) => Err(FileFault::Refused(Refusal::OutOfMemory)),
+    }
+}
+
+// The table of a copy after draws.
+fn drawn(alloc: Global, copy: &Table, draws: &[Change]) -> Result<Table, FileFault>
+    ensures { IfOk result (λ table. (faults_of copy.now draws.now ≡ [])
+        × (table ≡ changed_table draws.now copy.now)) }
+{
+    match changed_table(alloc, copy, draws) {
+        Ok(table) => Ok(table),
+        Err(Refused::Rows(_)) => Err(FileFault::Refused(Refusal::Damaged)),
+        Err(Refused::OutOfMemory) => Err(FileFault::Refused(Refusal::OutOfMemory)),
     }
 }
 

@@ -1,7 +1,6 @@
 """What happens to the devices: their lives at the network, and the commands in between. What is due
 after a command is computed here, by docs/DEVICES.md."""
 
-import os
 from collections.abc import Callable, Sequence
 
 from bozintar.frames import Keys
