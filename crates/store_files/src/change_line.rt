@@ -16,7 +16,7 @@ pub enum LineState {
     Done,
     /// It wasn't made.
     Failed,
-    /// Nobody knows: the store that could tell is lost.
+    /// Nobody knows: the store that would show it is lost.
     Unknown,
 }
 

@@ -49,8 +49,8 @@ pub struct ChangeRecords {
 }
 
 impl ChangeRecords {
-    /// The records of the store in a file, and of other folders, settled durably. Whoever calls
-    /// this holds the store's lock, and hasn't opened the store yet.
+    /// The records of the store in a file, and of other folders, settled durably. The caller
+    /// holds the store's lock, and hasn't opened the store yet.
     pub fn of<R: Files<File = File>>(
         rt: &R,
         alloc: Global,
@@ -176,8 +176,8 @@ impl ChangeRecord {
     }
 }
 
-/// Settles the record beside a store that is about to be served, if a line of it is open. Whoever
-/// calls this holds the store's lock, and hasn't opened the store yet.
+/// Settles the record beside a store that is about to be served, if a line of it is open. The
+/// caller holds the store's lock, and hasn't opened the store yet.
 pub fn settle<R: Files<File = File>>(rt: &R, alloc: Global, file: &str) -> Result<(), FileFault> {
     let name = folder_of(file);
     let path = format!(in alloc; "{name}/{CHANGES_NAME}").map_err(no_memory)?;

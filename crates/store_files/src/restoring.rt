@@ -15,7 +15,7 @@ use crate::opening::open_copy;
 use crate::record::{RECORD_NAME, read_sessions, with_devices};
 use crate::replacing::{UNFINISHED, folder_of};
 use crate::report::report_of;
-use crate::undone::{Restoring, undone};
+use crate::undone::{Restoring, undone_by};
 use device_changes::{Change, Refused, changed_table};
 use devices::{Device, GrantsSince, SessionName};
 use disk::FileDisk;
@@ -79,7 +79,7 @@ pub fn restore<R: Files<File = File>>(
         into: request.new,
         since: request.since,
     };
-    let undone = undone(rt, alloc, &restoring, records.recorded.as_slice())?;
+    let undone = undone_by(rt, alloc, &restoring, records.recorded.as_slice())?;
     records.sessions.extend_from_slice(undone.sessions.as_slice())?;
     let sessions = records.sessions.as_slice();
     let draws = undone.draws.as_slice();

@@ -17,8 +17,8 @@ pub struct Standing {
     pub generation: u64,
 }
 
-/// How the store in a file stands. `None` if there is no whole one. Whoever calls this holds the
-/// store's lock.
+/// How the store in a file stands. `None` if there is no whole one. The caller holds the store's
+/// lock.
 pub(crate) fn standing_of<R: Files<File = File>>(
     rt: &R,
     file: &str,

@@ -50,7 +50,7 @@ impl Restoring<'_> {
 }
 
 /// What these lines say of a copy. Lines of other networks aren't used.
-pub(crate) fn undone<R: Files<File = File>>(
+pub(crate) fn undone_by<R: Files<File = File>>(
     rt: &R,
     alloc: Global,
     restoring: &Restoring<'_>,

@@ -132,7 +132,8 @@ class Commands:
                 shutil.copy(file, copy)
         yield [names.get(word, word) for word in words], changes.on(lambda file: names[file])
         for copy in names.values():
-            for left in Path(copy).parent.glob(f"{Path(copy).name}*"):
+            folder = Path(copy).parent
+            for left in [*folder.glob(f"{Path(copy).name}*"), *folder.glob("lnsd-changes.csv*")]:
                 left.unlink()
 
     def killed_in_calls(self, words: Sequence[str], changes: Changes) -> None:

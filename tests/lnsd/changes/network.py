@@ -33,10 +33,13 @@ class Network:
         self.gateway = Gateway(address, GATEWAY, patience=PATIENCE)
         self.applications = [Application(address, number) for number in APPLICATIONS]
         self.stamp = 0
+        # every frame that was handed in, over all lives, if that is of use
+        self.frames: list[bytes] = []
 
     def hands_in(self, frame: bytes) -> None:
         """The gateway hears a frame."""
         self.stamp += 1_000_000
+        self.frames.append(frame)
         self.gateway.hands_in(frame, Copy(GATEWAY, stamp=self.stamp))
 
     def read(self, what: str, is_over: Callable[[], bool]) -> None:
@@ -70,7 +73,7 @@ class Network:
         meter = self.seen.meters.get(name or "")
         if isinstance(meter, Subscriber):
             self.seen.holds(Rule.OWN, not meter.is_retired, f"{name} is retired, and gets a frame")
-            if frame[0] == 0x20:
+            if frame[0] == 0x20 and meter.is_joining:
                 meter.has_joined(frame)
                 _, keys = meter.session()
                 is_new = keys not in self.keys

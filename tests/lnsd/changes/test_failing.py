@@ -13,14 +13,14 @@ from .subscribers import listed, made
 
 FAILED, FILE = "refused 40", "file\nlnsd: another error of the system"
 LIST = "{list} can't be read: Input/output error (os error 5)"
-NOT_CLOSED, RANDOM = "not closed", "random"
+NOT_CLOSED, RANDOM, RECORD = "not closed", "random", "record {folder}/lnsd-changes.csv"
 # the words of each command, and all that it says
 COMMANDS = {
-    "amend": ("amend {old} {list}", {FAILED, LIST}),
-    "import": ("import {list} {old}", {FAILED, LIST}),
-    "retire": ("retire {old} {first}", {FAILED, RANDOM}),
+    "amend": ("amend {old} {list}", {FAILED, LIST, RECORD}),
+    "import": ("import {list} {old}", {FAILED, LIST, RECORD}),
+    "retire": ("retire {old} {first}", {FAILED, RANDOM, RECORD}),
     "make": ("import {list} {new} --netid 00002A --slots 4", {FAILED, LIST, FILE, RANDOM}),
-    "grow": ("grow {old} --slots 5", {FAILED, FILE, NOT_CLOSED, RANDOM}),
+    "grow": ("grow {old} --slots 5", {FAILED, FILE, NOT_CLOSED, RANDOM, RECORD}),
     "copy": ("copy {old} {new}", {FAILED, FILE}),
 }
 
@@ -39,7 +39,8 @@ def prepared(commands: Commands, name: str) -> tuple[dict[str, str], Changes]:
     target = new if name in ("make", "copy") else old
     lengths = (length_of(4), length_of(5)) if name == "grow" else (0, 0)
     changes = Changes(target, due_of(after), "" if name == "make" else old, before, lengths)
-    return {"old": old, "new": new, "list": file, "first": first.dev_eui}, changes
+    names = {"list": file, "first": first.dev_eui, "folder": commands.program.folder}
+    return {"old": old, "new": new, **names}, changes
 
 
 def fails(number: int, commands: Commands, words: list[str], changes: Changes) -> str:

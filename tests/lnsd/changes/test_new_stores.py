@@ -19,7 +19,7 @@ from .test_stopped import HEAD, NEW, files_of, line
 MAKING = {
     "import": ("import {list} {new} --netid 00002A --slots 4", "new", "wfd(ws)+frd"),
     "restore": ("restore {old} {new}", "new", "wfdfrd(ws)+frd"),
-    "grow": ("grow {old} --slots 6", "old", "swfd(ws)+ffrdrdws"),
+    "grow": ("grow {old} --slots 6", "old", "sfrdwfd(ws)+ffrdrdwsfrd"),
 }
 
 

@@ -3,6 +3,7 @@ these. What has to be recorded and printed is written by docs/FORMATS.md."""
 
 import csv
 import os
+import shutil
 import signal
 from collections.abc import Sequence
 from pathlib import Path
@@ -35,7 +36,7 @@ class Network:
         self.folder, self.copies = Path(server.folder), Path(server.folder) / "copies"
         self.copies.mkdir()
         self.copy, self.new = str(self.copies / "copy"), f"{server.folder}/new"
-        assert server.run("copy", self.store, self.copy)[0] == 0
+        shutil.copyfile(self.store, self.copy)
 
     def changes(self, *words: str, lines: Sequence[str] = ()) -> None:
         """A command changes the store, and records that with the copies, too."""
@@ -148,8 +149,7 @@ def test_changes_that_the_copy_has(network: Network) -> None:
     text = "\n".join(",".join([*line[:2], "0", *line[3:]]) for line in later[1:])
     for folder in (network.copies, network.folder):
         (folder / CHANGES).write_text(f"{HEADER}\n{text}\n", encoding="ascii")
-    os.remove(network.copy)
-    assert server.run("copy", network.store, network.copy)[0] == 0
+    shutil.copyfile(network.store, network.copy)
     told, rows = network.restored()
     due = server.run("export", network.store, "--keys")[1]
     is_later = read(Path(network.store).read_bytes()).seq > 0
