@@ -240,10 +240,7 @@ fn is_given(matches: &ArgMatches<'_>, id: &str) -> bool
 }
 
 // The folders of `--record`, of which there may be none.
-fn record_folders<'a>(
-    alloc: Global,
-    matches: &ArgMatches<'a>,
-) -> Result<Vec<&'a str>, AllocError>
+fn record_folders<'a>(alloc: Global, matches: &ArgMatches<'a>) -> Result<Vec<&'a str>, AllocError>
     ensures { IfOk result
         (λ folders. AreRecords (rows_of (found_of matches.now)) folders.items) }
 {

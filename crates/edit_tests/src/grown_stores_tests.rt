@@ -43,11 +43,13 @@ fn cut(alloc: Global, old_calls: u64, new_calls: u64) -> Result<(MemDisk, MemDis
             Ok((old, new)) => (old, new.close()),
             Err((old, new)) => (old, new.close()),
         },
-        Err(NotGrown {
-            old_disk,
-            new_disk,
-            refusal: Refusal::DeviceFailed,
-        }) => (old_disk, new_disk),
+        Err(
+            NotGrown {
+                old_disk,
+                new_disk,
+                refusal: Refusal::DeviceFailed,
+            },
+        ) => (old_disk, new_disk),
         Err(NotGrown { refusal, .. }) => return Err(refusal),
     };
     old.arm(u64::MAX);

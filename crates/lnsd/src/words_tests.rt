@@ -164,10 +164,7 @@ const ROWS: &[(&str, &str)] = &[
     ("retire store", "wrong"),
     ("retire --help", "help"),
     ("grow store --slots 16", "grow store 16 false"),
-    (
-        "grow store --slots 1 --dry-run",
-        "grow store 1 true",
-    ),
+    ("grow store --slots 1 --dry-run", "grow store 1 true"),
     (
         "grow store --record a --slots 16 --record b/c",
         "grow store 16 false a b/c",

@@ -5,8 +5,8 @@ ghost use Rattle.store_edits.specs.Counts.{counts_after, ongoing_in};
 
 use crate::EditFault;
 use crate::changes::{NotChanged, NotGrown, grow_into, store_with_changes};
-use crate::recording::{planned_changes, planned_growth};
 use crate::reading::{NEXT_LINE, list_fault, random_key, read_changes};
+use crate::recording::{planned_changes, planned_growth};
 use device_changes::{
     Change, FaultyRow, GrowRefused, Refused, Retirement, changed_table, grown_table,
     imported_table, waiting_items,
@@ -131,7 +131,13 @@ pub fn retire_devices<R: Files<File = File>>(
     dry_run: DryRun,
 ) -> Result<EditCounts, EditFault> {
     let rows = retirements(rt, alloc, dev_euis)?;
-    match change_file(rt, alloc, &Edited { file, folders }, rows.as_slice(), dry_run) {
+    match change_file(
+        rt,
+        alloc,
+        &Edited { file, folders },
+        rows.as_slice(),
+        dry_run,
+    ) {
         Ok(counts) => Ok(counts),
         Err(NotDone::Rows(faulty)) => Err(not_retired(alloc, dev_euis, faulty.as_slice())),
         Err(NotDone::Other(fault)) => Err(fault),
@@ -198,9 +204,13 @@ fn replace_by_larger<R: Files<File = File>>(
     let (disk, made) = create(rt, place.beside(), slots)?;
     let grown = match grow_into(alloc, store, table, disk) {
         Ok(grown) => grown,
-        Err(NotGrown {
-            new_disk, refusal, ..
-        }) => {
+        Err(
+            NotGrown {
+                new_disk,
+                refusal,
+                ..
+            },
+        ) => {
             return Err(remove_new(rt, made, new_disk, FileFault::Refused(refusal)).into());
         }
     };

@@ -66,10 +66,18 @@ fn plan_amendment(
 
 // Whether an amendment changes a value on which nothing else depends.
 fn has_settings(device: &Device, amendment: &Amendment) -> bool {
-    amendment.join_eui.is_some_and(|value| value != device.join_eui)
-        || amendment.rx1_offset.is_some_and(|value| value != device.rx1_offset)
-        || amendment.rx_delay.is_some_and(|value| value != device.rx_delay)
-        || amendment.last_dev_nonce.is_some_and(|value| value != device.last_dev_nonce)
+    amendment
+        .join_eui
+        .is_some_and(|value| value != device.join_eui)
+        || amendment
+            .rx1_offset
+            .is_some_and(|value| value != device.rx1_offset)
+        || amendment
+            .rx_delay
+            .is_some_and(|value| value != device.rx_delay)
+        || amendment
+            .last_dev_nonce
+            .is_some_and(|value| value != device.last_dev_nonce)
 }
 
 fn plan(

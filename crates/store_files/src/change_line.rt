@@ -120,8 +120,8 @@ impl ChangeLine {
         let (net_id, generation, number) = (self.net_id, self.generation, self.number);
         let (state, deed) = (self.state.spelling(), self.deed.spelling());
         let (dev_eui, value) = (self.dev_eui, self.value);
-        let text = format!(
-            in alloc; "{net_id},{generation},{number},{state},{deed},{dev_eui},{value}\n"
+        let text = format!(in alloc;
+            "{net_id},{generation},{number},{state},{deed},{dev_eui},{value}\n"
         )?;
         Ok(text)
     }

@@ -196,7 +196,10 @@ pub fn settle<R: Files<File = File>>(rt: &R, alloc: Global, file: &str) -> Resul
 }
 
 /// The lines of a record.
-pub(crate) fn change_lines_in(alloc: Global, file: &LineFile) -> Result<Vec<ChangeLine>, FileFault> {
+pub(crate) fn change_lines_in(
+    alloc: Global,
+    file: &LineFile,
+) -> Result<Vec<ChangeLine>, FileFault> {
     let mut lines = Vec::new(alloc);
     for (number, line) in file.text.as_str().lines().enumerate() {
         if line != HEADER {

@@ -3,12 +3,11 @@ use crate::FileFault;
 use crate::replacing::{folder_of, replace};
 use lw_types::Refusal;
 use std::alloc::Global;
-use std::fs;
 use std::fs::File;
-use std::io;
 use std::io::{ErrorKind, Read};
 use std::os::unix::fs::MetadataExt;
 use std::rt::Files;
+use std::{fs, io};
 
 // Only the owner of a file of lines may read it.
 const MODE: u32 = 0o600;

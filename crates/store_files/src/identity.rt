@@ -6,11 +6,10 @@ use crate::random::random_bytes;
 use crate::replacing::{folder_of, replace};
 use crate::{FileCause, FileFault};
 use std::alloc::{AllocError, Global};
-use std::fs;
 use std::fs::File;
-use std::io;
 use std::io::ErrorKind;
 use std::rt::Files;
+use std::{fs, io};
 
 // What follows the name of a store in that of its identity.
 const SUFFIX: &str = ".id";

@@ -49,7 +49,9 @@ pub fn image_of<S: Source>(alloc: Global, source: &mut S) -> Result<Option<Vec<u
 }
 
 /// The superblock of a disk that has the length for it, and its bytes.
-pub(crate) fn superblock_of<S: Source>(source: &mut S) -> Result<(Superblock, [u8; Superblock::LEN]), Refusal>
+pub(crate) fn superblock_of<S: Source>(
+    source: &mut S,
+) -> Result<(Superblock, [u8; Superblock::LEN]), Refusal>
     ensures size { IfOk result
         (λ r. length (S.content source.old) ≡ disk_len r.0.slots) }
     ensures front { S.still → IfOk result (λ r. r.1 ≡ take 32 (S.content source.old)) }

@@ -2,12 +2,11 @@
 use crate::replacing::{folder_of, remove_left};
 use crate::{FileCause, FileFault, NewFile};
 use std::alloc::{AllocError, Global};
-use std::fs;
 use std::fs::File;
-use std::io;
 use std::io::ErrorKind;
 use std::os::unix::fs::{MetadataExt, chown};
 use std::rt::Files;
+use std::{fs, io};
 
 // What follows the name of a store in that of the store that will take its place.
 const SUFFIX: &str = ".larger";
@@ -61,11 +60,7 @@ impl Place {
     }
 
     /// Puts a new file here, durably. A crash leaves the old file or the new one.
-    pub fn take<R: Files<File = File>>(
-        &self,
-        rt: &R,
-        made: &NewFile<'_>,
-    ) -> Result<(), NotPlaced> {
+    pub fn take<R: Files<File = File>>(&self, rt: &R, made: &NewFile<'_>) -> Result<(), NotPlaced> {
         match rt.rename(made.path, self.path.as_str()) {
             Ok(()) => self.folder.sync_all().map_err(|_| NotPlaced::Unsynced),
             Err(error) => Err(NotPlaced::Old(fault_of(error))),

@@ -1,12 +1,11 @@
 // Small files that are replaced as a whole.
 use std::alloc::Global;
-use std::fs;
 use std::fs::{File, OpenOptions, Permissions};
-use std::io;
 use std::io::{ErrorKind, Write};
 use std::os::unix::fs::{MetadataExt, OpenOptionsExt, PermissionsExt, chown};
 use std::path::Path;
 use std::rt::Files;
+use std::{fs, io};
 
 /// What follows the name of a file while a new one is written that will replace it.
 pub(crate) const UNFINISHED: &str = ".new";
@@ -35,7 +34,12 @@ pub(crate) fn replace<R: Files<File = File>>(
     // a stricter mode or another owner than these is no fault
     let _ = file.set_permissions(Permissions::from_mode(mode));
     let owner = folder.metadata()?;
-    let _ = chown(rt, unfinished.as_str(), Some(owner.uid()), Some(owner.gid()));
+    let _ = chown(
+        rt,
+        unfinished.as_str(),
+        Some(owner.uid()),
+        Some(owner.gid()),
+    );
     file.write_all(text.as_bytes())?;
     file.sync_all()?;
     rt.rename(unfinished.as_str(), path)?;

@@ -80,7 +80,9 @@ pub fn restore<R: Files<File = File>>(
         since: request.since,
     };
     let undone = undone_by(rt, alloc, &restoring, records.recorded.as_slice())?;
-    records.sessions.extend_from_slice(undone.sessions.as_slice())?;
+    records
+        .sessions
+        .extend_from_slice(undone.sessions.as_slice())?;
     let sessions = records.sessions.as_slice();
     let draws = undone.draws.as_slice();
     let (table, head) = table_since(alloc, copy.table(), draws, sessions, request.since)?;

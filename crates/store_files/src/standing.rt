@@ -35,9 +35,11 @@ fn standing_in<S: Source>(source: &mut S) -> Result<Option<Standing>, Refusal> {
     let (superblock, _) = superblock_of(source)?;
     let first = generation_at(source, Superblock::LEN)?;
     let second = generation_at(source, Superblock::LEN + superblock.area_len() as usize)?;
-    Ok(first.max(second).map(|generation| Standing {
-        net_id: superblock.net_id,
-        slots: superblock.slots,
-        generation,
-    }))
+    Ok(
+        first.max(second).map(|generation| Standing {
+            net_id: superblock.net_id,
+            slots: superblock.slots,
+            generation,
+        }),
+    )
 }

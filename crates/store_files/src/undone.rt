@@ -2,10 +2,10 @@
 ghost use Rattle.std.specs.Prelude.{IfOk, IfSome};
 ghost use Rattle.store_files.specs.Draws.{AreDraws, IsDraw};
 
+use crate::FileFault;
 use crate::change_line::{ChangeLine, Deed, LineState};
 use crate::folder::no_memory;
 use crate::random::random_bytes;
-use crate::FileFault;
 use device_changes::{Change, Importing, LastJoinNonce, Retirement};
 use devices::{Application, GrantsSince, Provisioning, Rx1Offset, RxDelay, SessionName};
 use lw_types::{Eui, JoinNonce, Key};
@@ -45,7 +45,10 @@ impl Restoring<'_> {
     }
 
     fn has_device(&self, dev_eui: Eui) -> bool {
-        self.copy.devices().iter().any(|device| device.dev_eui == dev_eui)
+        self.copy
+            .devices()
+            .iter()
+            .any(|device| device.dev_eui == dev_eui)
     }
 }
 
@@ -168,8 +171,8 @@ fn told_text(
     let (dev_eui, value, deed) = (line.dev_eui, line.value, line.deed.spelling());
     let (new, since) = (restoring.into, restoring.since.get());
     if matches!(line.state, LineState::Open | LineState::Unknown) {
-        return format!(
-            in alloc; "unknown {dev_eui} {deed} {value}: look whether it was done, and do it again\n"
+        return format!(in alloc;
+            "unknown {dev_eui} {deed} {value}: look whether it was done, and do it again\n"
         );
     }
     if !restoring.may_lack(line) {
@@ -178,24 +181,21 @@ fn told_text(
     let is_drawn = draws.iter().any(|draw| draw.dev_eui() == dev_eui);
     match line.deed {
         Deed::Retired if is_drawn => format!(in alloc; "again {dev_eui} retired\n"),
-        Deed::Retired => format!(
-            in alloc; "left {dev_eui} retired: no slot is free for it; don't provision it\n"
+        Deed::Retired => format!(in alloc;
+            "left {dev_eui} retired: no slot is free for it; don't provision it\n"
         ),
         Deed::Joins => format!(in alloc; "again {dev_eui} joins {value}\n"),
-        Deed::Key => format!(
-            in alloc; "left {dev_eui} key: lnsd amend {new} CSV, with its DevEUI and AppKey\n"
+        Deed::Key => format!(in alloc;
+            "left {dev_eui} key: lnsd amend {new} CSV, with its DevEUI and AppKey\n"
         ),
-        Deed::Application => format!(
-            in alloc;
+        Deed::Application => format!(in alloc;
             "left {dev_eui} application {value}: lnsd amend {new} CSV, with its DevEUI and Application\n"
         ),
-        Deed::Settings => format!(
-            in alloc;
+        Deed::Settings => format!(in alloc;
             "left {dev_eui} settings: lnsd amend {new} CSV, with its JoinEUI, Offset, Delay, LastDevNonce\n"
         ),
         Deed::Imported if restoring.has_device(dev_eui) || is_drawn => Ok(String::new(alloc)),
-        Deed::Imported => format!(
-            in alloc;
+        Deed::Imported => format!(in alloc;
             "left {dev_eui} imported {value}: lnsd import CSV {new}, with the highest LastJoinNonce that was seen, plus {since}\n"
         ),
         Deed::Grown => format!(in alloc; "left grown {value}: lnsd grow {new} --slots {value}\n"),
