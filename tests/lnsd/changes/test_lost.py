@@ -29,6 +29,8 @@ class Lost:
         self.copies.mkdir()
         self.seen, self.keys, self.frames = Seen(), set[Keys](), list[bytes]()
         self.devices = self.more(DEVICES)
+        # those that got another AppKey, which each later restore draws anew
+        self.keyed: list[Subscriber] = []
         self.does(
             "import", self.listed(self.devices), self.store, "--netid", NET_ID, "--slots", SLOTS
         )
@@ -84,6 +86,7 @@ class Lost:
         self.does("retire", self.store, *(of.dev_eui for of in retired), *recorded)
         for device in keys:
             device.app_key, device.has_session = self.chance.randbytes(16), False
+        self.keyed = [of for of in {*self.keyed, *keys} if not of.is_retired]
         for device in raised:
             device.granted += 5000
             self.seen.last["JoinNonce", device.dev_eui] = device.granted
@@ -108,14 +111,16 @@ class Lost:
             assert f"again {device.dev_eui} retired" in told
         for device in raised:
             assert any(line.startswith(f"again {device.dev_eui} joins ") for line in told)
-        for name, some in (("key", keys), ("imported", imported)):
+        for name, some in (("key", self.keyed), ("imported", imported)):
             for device in some:
                 assert any(line.startswith(f"left {device.dev_eui} {name}") for line in told)
         lost = [*imported, *provisioned]
         for device in lost:
             device.granted += SINCE
         self.does("import", self.listed(lost), self.store)
-        self.does("amend", self.store, self.listed(keys, ("DevEUI", "AppKey")))
+        self.does("amend", self.store, self.listed(self.keyed, ("DevEUI", "AppKey")))
+        for slot, row in enumerate(rows_in(self.does("export", self.store))):
+            self.seen.meters[row["DevEUI"]].slot = slot
 
     def replay(self) -> None:
         """Every frame that was ever sent comes again, and none is forwarded; nor is a retired device
