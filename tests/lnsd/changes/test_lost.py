@@ -86,7 +86,7 @@ class Lost:
         self.does("retire", self.store, *(of.dev_eui for of in retired), *recorded)
         for device in keys:
             device.app_key, device.has_session = self.chance.randbytes(16), False
-        self.keyed = [of for of in {*self.keyed, *keys} if not of.is_retired]
+        self.keyed = [of for of in dict.fromkeys([*self.keyed, *keys]) if not of.is_retired]
         for device in raised:
             device.granted += 5000
             self.seen.last["JoinNonce", device.dev_eui] = device.granted
