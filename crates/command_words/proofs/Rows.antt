@@ -107,11 +107,11 @@ is_edit_key n =
 
 edit_keys : (e : Edit) → is_edit_key (key (edit_word e)) ≡ true
 edit_keys (edit.Export file keys) = refl
-edit_keys (edit.Import csv file dry_run) = refl
+edit_keys (edit.Import csv file records dry_run) = refl
 edit_keys (edit.ImportAsNew csv file net_id slots dry_run) = refl
-edit_keys (edit.Amend file csv dry_run) = refl
-edit_keys (edit.Retire file dev_euis dry_run) = refl
-edit_keys (edit.Grow file slots dry_run) = refl
+edit_keys (edit.Amend file csv records dry_run) = refl
+edit_keys (edit.Retire file dev_euis records dry_run) = refl
+edit_keys (edit.Grow file slots records dry_run) = refl
 
 not_edit : (word : Text) (e : Edit) → is_edit_key (key word) ≡ false → word ≡ edit_word e → ⊥
 not_edit word e not_key is = true≢false (sym (edit_keys e) ∙ (ap (λ w. is_edit_key (key w)) (sym is) ∙ not_key))
@@ -250,11 +250,11 @@ no_import rows there new = no_edit (codes "import") rows refl go
   where
     go : (e : Edit) → IsEditInRange e → codes "import" ≡ edit_word e → HasEditOptions rows e → ⊥
     go (edit.Export file keys) fits is h = apart (codes "import") (codes "export") (λ b. omega (arith, b)) is
-    go (edit.Import csv file dry_run) fits is h = there csv.now h.0 h.1
+    go (edit.Import csv file records dry_run) fits is h = there csv.now h.0 h.1
     go (edit.ImportAsNew csv file net_id slots dry_run) fits is h = new csv.now net_id slots fits.0 fits.1 h.0 h.1
-    go (edit.Amend file csv dry_run) fits is h = apart (codes "import") (codes "amend") (λ b. omega (arith, b)) is
-    go (edit.Retire file dev_euis dry_run) fits is h = apart (codes "import") (codes "retire") (λ b. omega (arith, b)) is
-    go (edit.Grow file slots dry_run) fits is h = apart (codes "import") (codes "grow") (λ b. omega (arith, b)) is
+    go (edit.Amend file csv records dry_run) fits is h = apart (codes "import") (codes "amend") (λ b. omega (arith, b)) is
+    go (edit.Retire file dev_euis records dry_run) fits is h = apart (codes "import") (codes "retire") (λ b. omega (arith, b)) is
+    go (edit.Grow file slots records dry_run) fits is h = apart (codes "import") (codes "grow") (λ b. omega (arith, b)) is
 
 -- an `amend` without a list
 pub no_amend : (rows : List Row) → ((t : Text) → first_of (codes "csv") rows ≡ Some t → ⊥) → AsksForNone (codes "amend") rows
@@ -262,11 +262,11 @@ no_amend rows never = no_edit (codes "amend") rows refl go
   where
     go : (e : Edit) → IsEditInRange e → codes "amend" ≡ edit_word e → HasEditOptions rows e → ⊥
     go (edit.Export file keys) fits is h = apart (codes "amend") (codes "export") (λ b. omega (arith, b)) is
-    go (edit.Import csv file dry_run) fits is h = apart (codes "amend") (codes "import") (λ b. omega (arith, b)) is
+    go (edit.Import csv file records dry_run) fits is h = apart (codes "amend") (codes "import") (λ b. omega (arith, b)) is
     go (edit.ImportAsNew csv file net_id slots dry_run) fits is h = apart (codes "amend") (codes "import") (λ b. omega (arith, b)) is
-    go (edit.Amend file csv dry_run) fits is h = never csv.now h.0
-    go (edit.Retire file dev_euis dry_run) fits is h = apart (codes "amend") (codes "retire") (λ b. omega (arith, b)) is
-    go (edit.Grow file slots dry_run) fits is h = apart (codes "amend") (codes "grow") (λ b. omega (arith, b)) is
+    go (edit.Amend file csv records dry_run) fits is h = never csv.now h.0
+    go (edit.Retire file dev_euis records dry_run) fits is h = apart (codes "amend") (codes "retire") (λ b. omega (arith, b)) is
+    go (edit.Grow file slots records dry_run) fits is h = apart (codes "amend") (codes "grow") (λ b. omega (arith, b)) is
 
 -- a `retire` without DevEUIs
 pub no_retire : (rows : List Row) → ((euis : List Eui) → AllByRecursion FitsEui euis → all_of (codes "deveui") rows ≡ Some (map eui_text euis) → ⊥) → AsksForNone (codes "retire") rows
@@ -274,11 +274,11 @@ no_retire rows never = no_edit (codes "retire") rows refl go
   where
     go : (e : Edit) → IsEditInRange e → codes "retire" ≡ edit_word e → HasEditOptions rows e → ⊥
     go (edit.Export file keys) fits is h = apart (codes "retire") (codes "export") (λ b. omega (arith, b)) is
-    go (edit.Import csv file dry_run) fits is h = apart (codes "retire") (codes "import") (λ b. omega (arith, b)) is
+    go (edit.Import csv file records dry_run) fits is h = apart (codes "retire") (codes "import") (λ b. omega (arith, b)) is
     go (edit.ImportAsNew csv file net_id slots dry_run) fits is h = apart (codes "retire") (codes "import") (λ b. omega (arith, b)) is
-    go (edit.Amend file csv dry_run) fits is h = apart (codes "retire") (codes "amend") (λ b. omega (arith, b)) is
-    go (edit.Retire file dev_euis dry_run) fits is h = never dev_euis.items fits h.0
-    go (edit.Grow file slots dry_run) fits is h = apart (codes "retire") (codes "grow") (λ b. omega (arith, b)) is
+    go (edit.Amend file csv records dry_run) fits is h = apart (codes "retire") (codes "amend") (λ b. omega (arith, b)) is
+    go (edit.Retire file dev_euis records dry_run) fits is h = never dev_euis.items fits h.0
+    go (edit.Grow file slots records dry_run) fits is h = apart (codes "retire") (codes "grow") (λ b. omega (arith, b)) is
 
 -- a `grow` without a number of slots
 pub no_grow : (rows : List Row) → ((s : ℕ) → AreSlots s → IsNumberOf (codes "slots") rows s → ⊥) → AsksForNone (codes "grow") rows
@@ -286,11 +286,11 @@ no_grow rows never = no_edit (codes "grow") rows refl go
   where
     go : (e : Edit) → IsEditInRange e → codes "grow" ≡ edit_word e → HasEditOptions rows e → ⊥
     go (edit.Export file keys) fits is h = apart (codes "grow") (codes "export") (λ b. omega (arith, b)) is
-    go (edit.Import csv file dry_run) fits is h = apart (codes "grow") (codes "import") (λ b. omega (arith, b)) is
+    go (edit.Import csv file records dry_run) fits is h = apart (codes "grow") (codes "import") (λ b. omega (arith, b)) is
     go (edit.ImportAsNew csv file net_id slots dry_run) fits is h = apart (codes "grow") (codes "import") (λ b. omega (arith, b)) is
-    go (edit.Amend file csv dry_run) fits is h = apart (codes "grow") (codes "amend") (λ b. omega (arith, b)) is
-    go (edit.Retire file dev_euis dry_run) fits is h = apart (codes "grow") (codes "retire") (λ b. omega (arith, b)) is
-    go (edit.Grow file slots dry_run) fits is h = never slots fits h.0
+    go (edit.Amend file csv records dry_run) fits is h = apart (codes "grow") (codes "amend") (λ b. omega (arith, b)) is
+    go (edit.Retire file dev_euis records dry_run) fits is h = apart (codes "grow") (codes "retire") (λ b. omega (arith, b)) is
+    go (edit.Grow file slots records dry_run) fits is h = never slots fits h.0
 
 -- the number of an option that wasn't read is above 65,535
 pub number_missed : (E : Type 0) (G : List ℕ → Result ℕ E → Type 0) → ((t : List ℕ) (x : Result ℕ E) → G t x → ParsesUnsigned 32 10 t x)
