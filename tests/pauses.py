@@ -7,7 +7,7 @@ from pathlib import Path
 from typing import Any
 
 # how long the machine may keep a process of a trial waiting, and how often that is read, in seconds
-MOST, EACH = 0.1, 0.25
+MOST, EACH = float(os.environ.get("LONGEST_PAUSE", "0.1")), 0.25
 TICKS = os.sysconf("SC_CLK_TCK")
 STOLEN = "stolen"
 

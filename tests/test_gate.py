@@ -111,7 +111,8 @@ def test_pages(gate: Gate, changed: str, is_page: bool) -> None:
 def tried(folder: Path, names: Sequence[str], *words: str) -> tuple[int, str]:
     """Does trials that fail on purpose; the status, and what was printed."""
     trials = [f"{FAILURES}::{name}" for name in names]
-    where = {**os.environ, "NOTES_OF_FAILURES": str(folder)}
+    # these are late on purpose: no pause of the machine is the reason
+    where = {**os.environ, "NOTES_OF_FAILURES": str(folder), "LONGEST_PAUSE": "inf"}
     for name in [name for name in where if name.startswith("PYTEST")]:
         del where[name]
     ended = subprocess.run(
