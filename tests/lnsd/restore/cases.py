@@ -79,9 +79,9 @@ def made_copy(path: str, first: int = 0, count: int = 3) -> Copy:
 
 
 class Case:
-    """A copy in a folder, and another folder where it is to be restored, or these folders. Texts of
-    the records that are there before may be given: the one beside the copy, and the one beside the
-    new store. Cases of one name and several rooms share both folders."""
+    """A copy in one folder, and the folder in which it is to be restored; `folders` names both. The
+    records that are there before are texts: the one beside the copy, and the one beside the new
+    store. Cases of one name share their folders, and `room` tells their files apart."""
 
     def __init__(
         self,
