@@ -81,7 +81,7 @@ def made_copy(path: str, first: int = 0, count: int = 3) -> Copy:
 class Case:
     """A copy in one folder, and the folder in which it is to be restored; `folders` names both. The
     records that are there before are texts: the one beside the copy, and the one beside the new
-    store. Cases of one name share their folders, and `room` tells their files apart."""
+    store. Cases of one name share their folders, and `room` ends the names of their files."""
 
     def __init__(
         self,
